@@ -1,0 +1,100 @@
+-- What is known of a file that passes 1 to 8: its credentials' roles and sets are within the format's numbers, and each position holds its credential.
+use mathlib.Core.Path.{_≡_, refl, sym, ap, _∙_, subst⁻¹}
+use mathlib.Core.List.{List, [], _∷_, List·Memᴰ as Mem, List·Memᴰ·head as head, List·Memᴰ·tail as tail}
+use mathlib.Core.Option.{some}
+use Prim.Native.Nat.{ℕ, _+_, _*_, _<_, _≤_}
+use native.Mathlib.Omega.{arith}
+use lib.Pow.{pow-lt}
+use Rattle.meaning.specs.Lists.{below}
+use Rattle.meaning.specs.Credentials.{Credential, SetFits, FitsAll}
+use Rattle.meaning.proofs.Tests.{is-true}
+use Rattle.meaning.proofs.ListLaws.{map-out, below-out}
+use Rattle.meaning.proofs.Levels.{entity-power}
+use Rattle.file.specs.Format.{statedBy, N, field, credentialIn, bodyOf, bodyIn, meaningOf, credentials}
+use Rattle.file.specs.Reading.{uses}
+use Rattle.file.specs.Values.{Read, valueOf, found, foundOf, foundIn, meantBy}
+use Rattle.file.specs.Conditions.{Head, Good, Accepted}
+use Rattle.file.specs.declared.Body.{Body}
+use Rattle.file.specs.Refusals.{Outcome, numberOf}
+use Rattle.file.specs.declared.Credential as D
+use Rattle.file.specs.declared.Found.the-variants as F
+use Rattle.file.proofs.Uses.{by-kind}
+use Rattle.file.proofs.Faults.{fault-none}
+use Rattle.file.proofs.Readable.{found-value, found-end}
+use Rattle.file.proofs.Refusals.{head-read, ranges-in, zeros-in}
+
+-- what a kind up to 5 has of the bytes g: a body, whose set is below 2 ^ 32, and which states these bytes
+pub record Bodied (g : ℕ → ℕ) (k : ℕ) : Type 0 where
+  pub body : Body
+  pub read : bodyOf k (g 3) (g 4) (g 5) (g 6) ≡ some body
+  pub fits : SetFits (meaningOf body)
+  pub states : statedBy body ≡ k ∷ g 3 ∷ g 4 ∷ g 5 ∷ g 6 ∷ []
+
+bodied : (g : ℕ → ℕ) → g 3 < 32 → (k : ℕ) → k ≤ 5 → ((j : ℕ) → Mem j (uses k .unused) → g j ≡ 0) → Bodied g k
+bodied g h =
+    by-kind (λ k. ((j : ℕ) → Mem j (uses k .unused) → g j ≡ 0) → Bodied g k)
+    (λ z. record {
+      body = _;
+      read = refl;
+      fits = pow-lt h;
+      states = λ i. 0 ∷ entity-power (g 3) i ∷ sym (z 4 (head refl)) i ∷ sym (z 5 (tail (head refl))) i ∷ sym (z 6 (tail (tail (head refl)))) i ∷ [];
+    })
+    (λ z. record { body = _; read = refl; fits = tt; states = λ i. 1 ∷ g 3 ∷ g 4 ∷ sym (z 5 (head refl)) i ∷ sym (z 6 (tail (head refl))) i ∷ [] })
+    (λ z. record { body = _; read = refl; fits = tt; states = λ i. 2 ∷ g 3 ∷ g 4 ∷ sym (z 5 (head refl)) i ∷ g 6 ∷ [] })
+    (λ z. record { body = _; read = refl; fits = tt; states = refl })
+    (λ z. record { body = _; read = refl; fits = tt; states = refl })
+    (λ z. record { body = _; read = refl; fits = tt; states = refl })
+
+-- every kind up to 5 has A and b among its entities, and r among its names
+uses-a : (k : ℕ) → k ≤ 5 → Mem 1 (uses k .entities)
+uses-a = by-kind (λ k. Mem 1 (uses k .entities)) (head refl) (head refl) (head refl) (head refl) (head refl) (head refl)
+
+uses-b : (k : ℕ) → k ≤ 5 → Mem 3 (uses k .entities)
+uses-b =
+    by-kind (λ k. Mem 3 (uses k .entities)) (tail (head refl)) (tail (head refl)) (tail (head refl)) (tail (head refl)) (tail (head refl)) (tail (head refl))
+
+uses-r : (k : ℕ) → k ≤ 5 → Mem 2 (uses k .names)
+uses-r = by-kind (λ k. Mem 2 (uses k .names)) (head refl) (head refl) (head refl) (head refl) (head refl) (head refl)
+
+module _ (f : List ℕ) (h : Head f) (i : ℕ) (g : Good f i) where
+  good-body : Bodied (field f i) (field f i 0)
+  good-body =
+      let b = g .ranges .entities 3 (uses-b (field f i 0) (g .kind)) in
+      let l = h .limits .entities .1 in
+      bodied (field f i) (omega arith) (field f i 0) (g .kind) (g .zeros)
+
+  good-head : field f i 1 * 32 + field f i 2 < 1024
+  good-head =
+      let a = g .ranges .entities 1 (uses-a (field f i 0) (g .kind)) in
+      let r = g .ranges .names 2 (uses-r (field f i 0) (g .kind)) in
+      let l = h .limits .entities .1 in
+      let k = h .limits .names .1 in
+      omega arith
+
+  good-fits : (credentialIn f i .statement .head < 1024) × SetFits (credentialIn f i .statement .body)
+  good-fits = let e = good-body in rw (e .read) (good-head, e .fits)
+
+  good-found : foundIn f i ≡ foundOf f i (bodyIn f i) → Read f i
+  good-found q =
+      let e = good-body in
+      record { value = valueOf f i (e .body); found = q ∙ rw (e .read) refl; means = rw (e .read) refl; states = e .states }
+
+module _ (f : List ℕ) (a : Accepted f) where
+  pub accepted-fits : FitsAll (credentials f)
+  unfolding credentials
+  accepted-fits c m =
+      let r = map-out (credentialIn f) (below (N f)) m in
+      subst⁻¹ (λ (x : Credential). (x .statement .head < 1024) × SetFits (x .statement .body)) (r .2)
+      (good-fits f (a .head) (r .0) (a .good (r .0) (below-out (N f) (r .1))))
+
+  -- each position below N holds its credential, as a value that means it
+  pub accepted-found : (i : ℕ) → i < N f → Read f i
+  accepted-found i l =
+      let g = a .good i l in
+      good-found f (a .head) i g
+      (found-value f i (ap (λ (o : Outcome ℕ). numberOf o) (head-read 0 f (a .head))) l
+      (fault-none f i (g .kind) (is-true _ (ranges-in f i (g .ranges))) (is-true _ (zeros-in f i (g .zeros))) (g .period)))
+
+  -- from N on there is none
+  pub accepted-end : (i : ℕ) → N f ≤ i → foundIn f i ≡ F.End
+  accepted-end i l = found-end f i (ap (λ (o : Outcome ℕ). numberOf o) (head-read 0 f (a .head))) l

@@ -1,0 +1,10 @@
+pub mod First
+pub mod Uses
+pub mod Sizes
+pub mod Faults
+pub mod Rows
+pub mod Readable
+pub mod Credentials
+pub mod Refusals
+pub mod Accepted
+pub mod Claims

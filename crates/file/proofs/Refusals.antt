@@ -1,0 +1,317 @@
+-- Refusals 1 to 8 are given exactly under document 01's conditions.
+use mathlib.Core.Path.{_≡_, refl, sym, ap, ap₂, _∙_, subst, subst⁻¹}
+use mathlib.Core.Logic.{_⊎_, inl, inr, _↔_}
+use mathlib.Core.Bool.{Bool, true, false, _&&_, not}
+use mathlib.Core.List.{List, [], _∷_, _++_, append-assoc, List·Memᴰ as Mem, List·Memᴰ·head as head, List·Memᴰ·tail as tail}
+use Prim.Native.Nat.{ℕ, zero, suc, _+_, _-_, _<_, _≤_, zero-le}
+use native.Mathlib.Nat.{le-refl}
+use native.Mathlib.Omega.{arith}
+use lib.Dec.{T, eqb, leb, ltb, eqb→eq, leb→le, le→leb, ltb→lt, lt→ltb, nltb→le, T-not, not-T}
+use lib.ListN.{length}
+use Rattle.meaning.specs.Lists.{all, each, upFrom, below}
+use Rattle.meaning.specs.Table.{ends}
+use Rattle.meaning.proofs.Tests.{and-in, and-left, and-right, eq-in, all-out}
+use Rattle.file.specs.Refusals.{Row, Outcome, done, refused, first, _when_, _at_when_}
+use Rattle.file.specs.Format.{E, R, N, lengthFor, field, fromOf, toOf, credentials}
+use Rattle.file.specs.Reading.{between, uses, inRange, zeros, headRows, credentialRows, endsRow, reading, read}
+use Rattle.file.specs.Conditions.{Limits, Head, Ranges, Zeros, Good, GoodBelow, Accepted, Reached, Refused, short, limits, wrongLength, kind, range, unused, period, tooManyEnds}
+
+-- ---- the first row that holds
+
+abbrev pub NoneHolds : List Row → Type 0
+NoneHolds rows = (r : Row) → Mem r rows → ¬ T (r .holds)
+
+module _ {A : Type 0} (a : A) where
+  -- a row that does not hold is passed over, one that holds is given
+  pub pass : (r : Row) (rows : List Row) → ¬ T (r .holds) → first (r ∷ rows) a ≡ first rows a
+  pass r rows h = go (r .holds) h
+    where
+      go : (b : Bool) → ¬ T b → elim b as (λ x. Outcome A) [ true ↦ refused (r .number) (r .place) | false ↦ first rows a ] ≡ first rows a
+      go true n = absurd (n tt)
+      go false n = refl
+
+  pub give : (r : Row) (rows : List Row) → T (r .holds) → _≡_ {A = Outcome A} (first (r ∷ rows) a) (refused (r .number) (r .place))
+  give r rows h = go (r .holds) h
+    where
+      go : (b : Bool) → T b → _≡_ {A = Outcome A} (elim b as (λ x. Outcome A) [ true ↦ refused (r .number) (r .place) | false ↦ first rows a ]) (refused (r .number) (r .place))
+      go true t = refl
+      go false t = absurd t
+
+  pub pass-all : (xs ys : List Row) → NoneHolds xs → first (xs ++ ys) a ≡ first ys a
+  pass-all [] ys h = refl
+  pass-all (r ∷ xs) ys h = pass r (xs ++ ys) (h r (head refl)) ∙ pass-all xs ys (λ q i. h q (tail i))
+
+-- ---- the tests and the conditions
+
+-- a test that holds for every element
+all-in : {A : Type 0} (p : A → Bool) (l : List A) → ((x : A) → Mem x l → T (p x)) → T (all p l)
+all-in p [] h = tt
+all-in p (x ∷ l) h = and-in (p x) (all p l) (h x (head refl)) (all-in p l (λ y i. h y (tail i)))
+
+ruleset parts = (and-left, and-right, leb→le, ltb→lt, eqb→eq)
+
+module _ (f : List ℕ) where
+  abbrev limitsTest : Bool
+  limitsTest = between 1 32 (E f) && between 1 32 (R f) && between 0 256 (N f)
+
+  limits-out : T limitsTest → Limits f
+  limits-out t = record { entities = (search parts, search parts); names = (search parts, search parts); credentials = search parts }
+
+  limits-in : Limits f → T limitsTest
+  limits-in l =
+      and-in (between 1 32 (E f) && between 1 32 (R f)) (between 0 256 (N f))
+      (and-in (between 1 32 (E f)) (between 1 32 (R f)) (inside 1 32 (E f) (l .entities)) (inside 1 32 (R f) (l .names)))
+      (inside 0 256 (N f) (zero-le, l .credentials))
+    where
+      inside : (low high x : ℕ) → (low ≤ x) × (x ≤ high) → T (between low high x)
+      inside low high x (h, k) = and-in (leb low x) (leb x high) (le→leb low x h) (le→leb x high k)
+
+  module _ (i : ℕ) where
+    abbrev entitiesTest : Bool
+    entitiesTest = all (λ j. ltb (field f i j) (E f)) (uses (field f i 0) .entities)
+
+    abbrev namesTest : Bool
+    namesTest = all (λ j. ltb (field f i j) (R f)) (uses (field f i 0) .names)
+
+    ranges-out : T (inRange f i) → Ranges f i
+    ranges-out t = record {
+      entities = λ j m. ltb→lt _ _ (all-out (λ k. ltb (field f i k) (E f)) (uses (field f i 0) .entities) (and-left entitiesTest namesTest t) m);
+      names = λ j m. ltb→lt _ _ (all-out (λ k. ltb (field f i k) (R f)) (uses (field f i 0) .names) (and-right entitiesTest namesTest t) m);
+    }
+
+    pub ranges-in : Ranges f i → T (inRange f i)
+    ranges-in r =
+        and-in entitiesTest namesTest (all-in (λ k. ltb (field f i k) (E f)) (uses (field f i 0) .entities) (λ j m. lt→ltb _ _ (r .entities j m)))
+        (all-in (λ k. ltb (field f i k) (R f)) (uses (field f i 0) .names) (λ j m. lt→ltb _ _ (r .names j m)))
+
+    zeros-out : T (zeros f i) → Zeros f i
+    zeros-out t j m = eqb→eq _ _ (all-out (λ k. eqb (field f i k) 0) (uses (field f i 0) .unused) t m)
+
+    pub zeros-in : Zeros f i → T (zeros f i)
+    zeros-in z = all-in (λ k. eqb (field f i k) 0) (uses (field f i 0) .unused) (λ j m. eq-in _ 0 (z j m))
+
+-- ---- rows that are passed over
+
+module _ (f : List ℕ) where
+  abbrev shortRow : Row
+  shortRow = 1 when (ltb (length f) 6)
+
+  abbrev limitsRow : Row
+  limitsRow = 2 when (not (limitsTest f))
+
+  abbrev lengthRow : Row
+  lengthRow = 3 when (not (eqb (length f) (lengthFor (N f))))
+
+  abbrev kindRow : ℕ → Row
+  kindRow i = 4 at i when (ltb 5 (field f i 0))
+
+  abbrev rangeRow : ℕ → Row
+  rangeRow i = 5 at i when (not (inRange f i))
+
+  abbrev zerosRow : ℕ → Row
+  zerosRow i = 6 at i when (not (zeros f i))
+
+  abbrev periodRow : ℕ → Row
+  periodRow i = 7 at i when (leb (toOf f i) (fromOf f i))
+
+  -- the rows of n credentials from i on, and then the row of 8
+  abbrev rowsFrom : ℕ → ℕ → List Row
+  rowsFrom i n = each (credentialRows f) (upFrom i n) ++ endsRow f ∷ []
+
+module _ {A : Type 0} (a : A) (f : List ℕ) where
+  short-passes : 6 ≤ length f → (rows : List Row) → first (shortRow f ∷ rows) a ≡ first rows a
+  short-passes h rows = pass a (shortRow f) rows (λ t. omega (arith, ltb→lt (length f) 6 t))
+
+  limits-pass : Limits f → (rows : List Row) → first (limitsRow f ∷ rows) a ≡ first rows a
+  limits-pass l rows = pass a (limitsRow f) rows (λ t. T-not (limitsTest f) t (limits-in f l))
+
+  length-passes : length f ≡ lengthFor (N f) → (rows : List Row) → first (lengthRow f ∷ rows) a ≡ first rows a
+  length-passes e rows = pass a (lengthRow f) rows (λ t. T-not (eqb (length f) (lengthFor (N f))) t (eq-in _ _ e))
+
+  head-passes : Head f → (rows : List Row) → first (headRows f ++ rows) a ≡ first rows a
+  head-passes h rows =
+      short-passes (h .six) (limitsRow f ∷ lengthRow f ∷ rows) ∙ limits-pass (h .limits) (lengthRow f ∷ rows) ∙ length-passes (h .whole) rows
+
+  pub head-read : Head f → _≡_ {A = Outcome A} (first (headRows f) a) (done a)
+  head-read h = head-passes h []
+
+  module _ (i : ℕ) (rows : List Row) where
+    kind-passes : field f i 0 ≤ 5 → first (kindRow f i ∷ rows) a ≡ first rows a
+    kind-passes h = pass a (kindRow f i) rows (λ t. omega (arith, ltb→lt 5 (field f i 0) t))
+
+    range-passes : Ranges f i → first (rangeRow f i ∷ rows) a ≡ first rows a
+    range-passes r = pass a (rangeRow f i) rows (λ t. T-not (inRange f i) t (ranges-in f i r))
+
+    zeros-pass : Zeros f i → first (zerosRow f i ∷ rows) a ≡ first rows a
+    zeros-pass z = pass a (zerosRow f i) rows (λ t. T-not (zeros f i) t (zeros-in f i z))
+
+    period-passes : fromOf f i < toOf f i → first (periodRow f i ∷ rows) a ≡ first rows a
+    period-passes h = pass a (periodRow f i) rows (λ t. omega (arith, leb→le (toOf f i) (fromOf f i) t))
+
+  good-passes : (i : ℕ) → Good f i → (rows : List Row) → first (credentialRows f i ++ rows) a ≡ first rows a
+  good-passes i g rows =
+      kind-passes i (rangeRow f i ∷ zerosRow f i ∷ periodRow f i ∷ rows) (g .kind) ∙ range-passes i (zerosRow f i ∷ periodRow f i ∷ rows) (g .ranges)
+      ∙ zeros-pass i (periodRow f i ∷ rows) (g .zeros) ∙ period-passes i rows (g .period)
+
+  one-more : (i n : ℕ) → rowsFrom f i (suc n) ≡ credentialRows f i ++ rowsFrom f (suc i) n
+  one-more i n = append-assoc (credentialRows f i) (each (credentialRows f) (upFrom (suc i) n)) (endsRow f ∷ [])
+
+  -- k good credentials are passed over
+  good-pass : (k i t n u : ℕ) → k + i ≡ t → k + n ≡ u → ((j : ℕ) → i ≤ j → j < t → Good f j) → first (rowsFrom f i u) a ≡ first (rowsFrom f t n) a
+  good-pass zero i t n u e d h =
+      let p : i ≡ t = omega arith in
+      let q : u ≡ n = omega arith in
+      ap₂ (λ (j k : ℕ). first (rowsFrom f j k) a) p q
+  good-pass (suc k) i t n u e d h =
+      let q : u ≡ suc (k + n) = omega arith in
+      ap (λ (j : ℕ). first (rowsFrom f i j) a) q ∙ ap (λ (rows : List Row). first rows a) (one-more i (k + n))
+      ∙ good-passes i (h i (le-refl i) (omega arith)) (rowsFrom f (suc i) (k + n))
+      ∙ good-pass k (suc i) t n (k + n) (omega arith) refl (λ j l m. h j (omega arith) m)
+
+  -- reading comes to what follows the credentials below t
+  good-read : (t n : ℕ) → Head f → N f ≡ t + n → GoodBelow f t → read f a ≡ first (rowsFrom f t n) a
+  unfolding reading
+  good-read t n h e g = head-passes h (rowsFrom f 0 (N f)) ∙ good-pass t 0 t n (N f) (omega arith) (sym e) (λ j l m. g j m)
+
+  reached-read : (i : ℕ) → Reached f i → (n : ℕ) × (read f a ≡ first (credentialRows f i ++ rowsFrom f (suc i) n) a)
+  reached-read i r =
+      let n = N f - suc i in
+      let b = r .below in
+      (n, good-read i (suc n) (r .head) (omega arith) (r .good) ∙ ap (λ (rows : List Row). first rows a) (one-more i n))
+
+  -- ---- the conditions give the refusals
+
+  pub accepted-read : Accepted f → _≡_ {A = Outcome A} (read f a) (done a)
+  accepted-read c =
+      good-read (N f) 0 (c .head) (omega arith) (c .good)
+      ∙ pass a (endsRow f) [] (λ t. let h = c .few in omega (arith, ltb→lt 64 (length (ends (credentials f))) t))
+
+  pub refused-read : {n p : ℕ} → Refused f n p → _≡_ {A = Outcome A} (read f a) (refused n p)
+  unfolding reading
+  refused-read (short h) = give a (shortRow f) (limitsRow f ∷ lengthRow f ∷ rowsFrom f 0 (N f)) (lt→ltb (length f) 6 h)
+  refused-read (limits h l) =
+      short-passes h (limitsRow f ∷ lengthRow f ∷ rowsFrom f 0 (N f))
+      ∙ give a (limitsRow f) (lengthRow f ∷ rowsFrom f 0 (N f)) (not-T (limitsTest f) (λ t. l (limits-out f t)))
+  refused-read (wrongLength h l e) =
+      short-passes h (limitsRow f ∷ lengthRow f ∷ rowsFrom f 0 (N f)) ∙ limits-pass l (lengthRow f ∷ rowsFrom f 0 (N f))
+      ∙ give a (lengthRow f) (rowsFrom f 0 (N f)) (not-T (eqb (length f) (lengthFor (N f))) (λ t. e (eqb→eq _ _ t)))
+  refused-read (kind i r h) =
+      let x = reached-read i r in
+      let rows = rowsFrom f (suc i) (x .0) in
+      x .1 ∙ give a (kindRow f i) (rangeRow f i ∷ zerosRow f i ∷ periodRow f i ∷ rows) (lt→ltb 5 (field f i 0) h)
+  refused-read (range i r k h) =
+      let x = reached-read i r in
+      let rows = zerosRow f i ∷ periodRow f i ∷ rowsFrom f (suc i) (x .0) in
+      x .1 ∙ kind-passes i (rangeRow f i ∷ rows) k ∙ give a (rangeRow f i) rows (not-T (inRange f i) (λ t. h (ranges-out f i t)))
+  refused-read (unused i r k s h) =
+      let x = reached-read i r in
+      let rows = periodRow f i ∷ rowsFrom f (suc i) (x .0) in
+      x .1 ∙ kind-passes i (rangeRow f i ∷ zerosRow f i ∷ rows) k ∙ range-passes i (zerosRow f i ∷ rows) s
+      ∙ give a (zerosRow f i) rows (not-T (zeros f i) (λ t. h (zeros-out f i t)))
+  refused-read (period i r k s z h) =
+      let x = reached-read i r in
+      let rows = rowsFrom f (suc i) (x .0) in
+      x .1 ∙ kind-passes i (rangeRow f i ∷ zerosRow f i ∷ periodRow f i ∷ rows) k ∙ range-passes i (zerosRow f i ∷ periodRow f i ∷ rows) s
+      ∙ zeros-pass i (periodRow f i ∷ rows) z ∙ give a (periodRow f i) rows (le→leb (toOf f i) (fromOf f i) h)
+  refused-read (tooManyEnds h g l) =
+      good-read (N f) 0 h (omega arith) g ∙ give a (endsRow f) [] (lt→ltb 64 (length (ends (credentials f))) l)
+
+-- ---- one of the conditions holds
+
+abbrev pub Verdict : List ℕ → Type 0
+Verdict f = Accepted f ⊎ ((n p : ℕ) × Refused f n p)
+
+-- a proposition by its test
+by-test : {P : Type 0} (b : Bool) → (T b → P) → (P → T b) → P ⊎ (¬ P)
+by-test true out into = inl (out tt)
+by-test false out into = inr (λ p. into p)
+
+less : (a b : ℕ) → (a < b) ⊎ (b ≤ a)
+less a b = go (ltb a b) refl
+  where
+    go : (t : Bool) → ltb a b ≡ t → (a < b) ⊎ (b ≤ a)
+    go true e = inl (ltb→lt a b (subst⁻¹ T e tt))
+    go false e = inr (nltb→le a b (subst⁻¹ (λ (x : Bool). T (not x)) e tt))
+
+module _ (f : List ℕ) where
+  credential-verdict : (i : ℕ) → Reached f i → Good f i ⊎ ((n p : ℕ) × Refused f n p)
+  credential-verdict i r = by-kind (less 5 (field f i 0))
+    where
+      Result : Type 0
+      Result = Good f i ⊎ ((n p : ℕ) × Refused f n p)
+
+      by-period : field f i 0 ≤ 5 → Ranges f i → Zeros f i → (fromOf f i < toOf f i) ⊎ (toOf f i ≤ fromOf f i) → Result
+      by-period k s z (inl h) = inl (record { kind = k; ranges = s; zeros = z; period = h })
+      by-period k s z (inr h) = inr (7, i, period i r k s z h)
+
+      by-zeros : field f i 0 ≤ 5 → Ranges f i → Zeros f i ⊎ (¬ Zeros f i) → Result
+      by-zeros k s (inl z) = by-period k s z (less (fromOf f i) (toOf f i))
+      by-zeros k s (inr z) = inr (6, i, unused i r k s z)
+
+      by-range : field f i 0 ≤ 5 → Ranges f i ⊎ (¬ Ranges f i) → Result
+      by-range k (inl s) = by-zeros k s (by-test (zeros f i) (zeros-out f i) (zeros-in f i))
+      by-range k (inr s) = inr (5, i, range i r k s)
+
+      by-kind : (5 < field f i 0) ⊎ (field f i 0 ≤ 5) → Result
+      by-kind (inl h) = inr (4, i, kind i r h)
+      by-kind (inr k) = by-range k (by-test (inRange f i) (ranges-out f i) (ranges-in f i))
+
+  -- k credentials are left, from i on
+  credentials-verdict : (k i : ℕ) → Head f → N f ≡ k + i → GoodBelow f i → GoodBelow f (N f) ⊎ ((n p : ℕ) × Refused f n p)
+  credentials-verdict zero i h e g = inl (λ j l. g j (omega arith))
+  credentials-verdict (suc k) i h e g =
+      go (credential-verdict i (record { head = h; below = omega arith; good = g })) (λ g′. credentials-verdict k (suc i) h (omega arith) g′)
+    where
+      more : Good f i → (j : ℕ) → (j < i) ⊎ (i ≤ j) → j < suc i → Good f j
+      more c j (inl l) m = g j l
+      more c j (inr l) m = let q : i ≡ j = omega arith in subst (Good f) q c
+
+      go : Good f i ⊎ ((n p : ℕ) × Refused f n p) → (GoodBelow f (suc i) → GoodBelow f (N f) ⊎ ((n p : ℕ) × Refused f n p)) → GoodBelow f (N f) ⊎ ((n p : ℕ) × Refused f n p)
+      go (inl c) rec = rec (λ j m. more c j (less j i) m)
+      go (inr x) rec = inr x
+
+  pub verdict : Verdict f
+  verdict = by-six (less (length f) 6)
+    where
+      by-ends : Head f → GoodBelow f (N f) → (64 < length (ends (credentials f))) ⊎ (length (ends (credentials f)) ≤ 64) → Verdict f
+      by-ends h g (inl l) = inr (8, 0, tooManyEnds h g l)
+      by-ends h g (inr l) = inl (record { head = h; good = g; few = l })
+
+      by-credentials : Head f → GoodBelow f (N f) ⊎ ((n p : ℕ) × Refused f n p) → Verdict f
+      by-credentials h (inl g) = by-ends h g (less 64 (length (ends (credentials f))))
+      by-credentials h (inr x) = inr x
+
+      by-length : 6 ≤ length f → Limits f → (length f ≡ lengthFor (N f)) ⊎ (¬ (length f ≡ lengthFor (N f))) → Verdict f
+      by-length s l (inl e) =
+          let h : Head f = record { six = s; limits = l; whole = e } in
+          by-credentials h (credentials-verdict (N f) 0 h (omega arith) (λ i b. absurd (omega arith)))
+      by-length s l (inr e) = inr (3, 0, wrongLength s l e)
+
+      by-limits : 6 ≤ length f → Limits f ⊎ (¬ Limits f) → Verdict f
+      by-limits s (inl l) = by-length s l (by-test (eqb (length f) (lengthFor (N f))) (eqb→eq _ _) (eq-in _ _))
+      by-limits s (inr l) = inr (2, 0, limits s l)
+
+      by-six : (length f < 6) ⊎ (6 ≤ length f) → Verdict f
+      by-six (inl h) = inr (1, 0, short h)
+      by-six (inr s) = by-limits s (by-test (limitsTest f) (limits-out f) (limits-in f))
+
+-- ---- exact both ways
+
+module _ {A : Type 0} (a : A) (f : List ℕ) where
+  pub refused-exact : (n p : ℕ) → _≡_ {A = Outcome A} (read f a) (refused n p) ↔ Refused f n p
+  refused-exact n p = (λ e. go e (verdict f), refused-read a f)
+    where
+      go : _≡_ {A = Outcome A} (read f a) (refused n p) → Verdict f → Refused f n p
+      go e (inl c) = let x = accepted-read a f c in let z : _≡_ {A = ℕ} 0 1 = cc in absurd (omega arith)
+      go e (inr (k, q, r)) =
+          let x = refused-read a f r in
+          let u : k ≡ n = cc in
+          let v : q ≡ p = cc in
+          subst (λ (y : ℕ). Refused f n y) v (subst (λ (y : ℕ). Refused f y q) u r)
+
+  pub accepted-exact : _≡_ {A = Outcome A} (read f a) (done a) ↔ Accepted f
+  accepted-exact = (λ e. go e (verdict f), accepted-read a f)
+    where
+      go : _≡_ {A = Outcome A} (read f a) (done a) → Verdict f → Accepted f
+      go e (inl c) = c
+      go e (inr (k, q, r)) = let x = refused-read a f r in let z : _≡_ {A = ℕ} 0 1 = cc in absurd (omega arith)

@@ -1,0 +1,61 @@
+-- Document 01's conditions for refusals 1 to 8, in propositions: when each is given, and when none is.
+use mathlib.Core.Path.{_≡_}
+use mathlib.Core.List.{List, List·Memᴰ as Mem}
+use Prim.Native.Nat.{ℕ, _<_, _≤_}
+use lib.ListN.{length}
+use Rattle.meaning.specs.Table.{ends}
+use Rattle.file.specs.Format.{E, R, N, lengthFor, field, fromOf, toOf, credentials}
+use Rattle.file.specs.Reading.{uses}
+
+-- E and R are 1 to 32, N is 0 to 256
+pub record Limits (f : List ℕ) : Type 0 where
+  pub entities : (1 ≤ E f) × (E f ≤ 32)
+  pub names : (1 ≤ R f) × (R f ≤ 32)
+  pub credentials : N f ≤ 256
+
+pub record Head (f : List ℕ) : Type 0 where
+  pub six : 6 ≤ length f
+  pub limits : Limits f
+  pub whole : length f ≡ lengthFor (N f)
+
+-- A and every used entity below E, r and every used name below R
+pub record Ranges (f : List ℕ) (i : ℕ) : Type 0 where
+  pub entities : (j : ℕ) → Mem j (uses (field f i 0) .entities) → field f i j < E f
+  pub names : (j : ℕ) → Mem j (uses (field f i 0) .names) → field f i j < R f
+
+-- unused bytes and byte 7 zero
+abbrev pub Zeros : List ℕ → ℕ → Type 0
+Zeros f i = (j : ℕ) → Mem j (uses (field f i 0) .unused) → field f i j ≡ 0
+
+-- credential i passes 4 to 7
+pub record Good (f : List ℕ) (i : ℕ) : Type 0 where
+  pub kind : field f i 0 ≤ 5
+  pub ranges : Ranges f i
+  pub zeros : Zeros f i
+  pub period : fromOf f i < toOf f i
+
+abbrev pub GoodBelow : List ℕ → ℕ → Type 0
+GoodBelow f n = (i : ℕ) → i < n → Good f i
+
+-- refusals 1 to 8 are not given
+pub record Accepted (f : List ℕ) : Type 0 where
+  pub head : Head f
+  pub good : GoodBelow f (N f)
+  pub few : length (ends (credentials f)) ≤ 64
+
+-- the head passes, and so do all credentials before credential i
+pub record Reached (f : List ℕ) (i : ℕ) : Type 0 where
+  pub head : Head f
+  pub below : i < N f
+  pub good : GoodBelow f i
+
+-- `Refused f n p`: the condition of refusal n holds at place p, and none above it does
+pub data Refused (f : List ℕ) : ℕ → ℕ → Type 0 where
+  short : length f < 6 → Refused f 1 0
+  limits : 6 ≤ length f → ¬ Limits f → Refused f 2 0
+  wrongLength : 6 ≤ length f → Limits f → ¬ (length f ≡ lengthFor (N f)) → Refused f 3 0
+  kind : (i : ℕ) → Reached f i → 5 < field f i 0 → Refused f 4 i
+  range : (i : ℕ) → Reached f i → field f i 0 ≤ 5 → ¬ Ranges f i → Refused f 5 i
+  unused : (i : ℕ) → Reached f i → field f i 0 ≤ 5 → Ranges f i → ¬ Zeros f i → Refused f 6 i
+  period : (i : ℕ) → Reached f i → field f i 0 ≤ 5 → Ranges f i → Zeros f i → toOf f i ≤ fromOf f i → Refused f 7 i
+  tooManyEnds : Head f → GoodBelow f (N f) → 64 < length (ends (credentials f)) → Refused f 8 0

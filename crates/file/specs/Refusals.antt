@@ -1,0 +1,37 @@
+-- Where each refusal is checked (document 01): rows of a table, and the first that holds.
+use mathlib.Core.Bool.{Bool, true, false}
+use mathlib.Core.List.{List, [], _∷_}
+use Prim.Native.Nat.{ℕ}
+
+-- what a call answers: its result, or a refusal's number and place only
+pub data Outcome (A : Type 0) : Type 0 where
+  done : A → Outcome A
+  refused : ℕ → ℕ → Outcome A
+
+-- a row of the table: number, place, condition
+pub record Row : Type 0 where
+  pub number : ℕ
+  pub place : ℕ
+  pub holds : Bool
+
+infix 75 _when_
+infix 75 _at_when_
+abbrev pub _at_when_ : ℕ → ℕ → Bool → Row
+n at p when b = record { number = n; place = p; holds = b }
+
+abbrev pub _when_ : ℕ → Bool → Row
+n when b = n at 0 when b
+
+-- A refusal is given if its condition holds and none above it does, and in no other case.
+abbrev pub first : {A : Type 0} → List Row → A → Outcome A
+first [] a = done a
+first (r ∷ rows) a = elim (r .holds) [ true ↦ refused (r .number) (r .place) | false ↦ first rows a ]
+
+-- number and place of an answer, 0 where it is no refusal
+abbrev pub numberOf : {A : Type 0} → Outcome A → ℕ
+numberOf (done a) = 0
+numberOf (refused n p) = n
+
+abbrev pub placeOf : {A : Type 0} → Outcome A → ℕ
+placeOf (done a) = 0
+placeOf (refused n p) = p

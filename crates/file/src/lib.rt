@@ -1,0 +1,322 @@
+// The credentials file: its numbers, its credentials as values, and refusals 1 to 7.
+ghost use mathlib.Core.Path.{_≡_};
+ghost use mathlib.Core.List.{_++_};
+ghost use Prim.Native.Nat.{_+_, _*_, _<_, _≤_};
+ghost use lib.ListN.{length};
+ghost use mathlib.Core.Bool.{_&&_};
+ghost use lib.Dec.{ltb};
+ghost use mathlib.Core.Option.{some};
+ghost use Rattle.file.specs.Format.{byte, two, four, E, R, N, roleOf, joinedOf, bodyOf, bodyIn};
+ghost use Rattle.file.specs.Reading.{between, headRows, inRange, zeros, credentialRows, credentialsRows};
+ghost use Rattle.file.specs.Values.{headIn, noSizes, firstRefusal, firstNumber, Headed, Stated, found, foundOf, foundIn, periodIn};
+
+// An entity's number; never a role name's.
+pub struct Entity(pub u8);
+
+// A role name's number; never an entity's.
+pub struct RoleName(pub u8);
+
+pub struct Role {
+    pub issuer: Entity,
+    pub name: RoleName,
+}
+
+// What stands right of the arrow. A set has bit e for entity e.
+pub enum Body {
+    Set(u32),
+    Inclusion(Role),
+    Linked(Role, RoleName),
+    Intersection(Role, Role),
+    Union(Role, Role),
+    Disjoint(Role, Role),
+}
+
+// A credential as the file has it.
+pub struct Credential {
+    pub head: Role,
+    pub body: Body,
+    pub from: u32,
+    pub to: u32,
+}
+
+// What stands at a position.
+pub enum Found {
+    Credential(Credential),
+    End,
+}
+
+// The minutes from `from` up to, not including, `until`.
+pub struct Period {
+    pub from: u32,
+    pub until: u32,
+}
+
+// The sizes of a file that passes 1 to 3; otherwise the refusal's number and no sizes.
+pub struct Head {
+    pub number: u32,
+    pub entities: u32,
+    pub names: u32,
+    pub credentials: usize,
+}
+
+// Number and place of a refusal; both 0 where there is none.
+pub struct Refusal {
+    pub number: u32,
+    pub place: u32,
+}
+
+fn wide(x: u8) -> u32
+    ensures { λ r. ⌜ (r ≡ x) × (x < 256) ⌝ }
+{
+    x as u32
+}
+
+fn two_at(file: &[u8], p: usize) -> u32
+    requires { ⌜ p + 2 ≤ length (now file) ⌝ }
+    ensures { λ r. ⌜ (r ≡ two (now (file .entry)) p) × (r < 65536) ⌝ }
+{
+    let low = wide(file[p]);
+    let high = wide(file[p + 1]);
+    low + 256 * high
+}
+
+fn four_at(file: &[u8], p: usize) -> u32
+    requires { ⌜ p + 4 ≤ length (now file) ⌝ }
+    ensures { λ r. ⌜ r ≡ four (now (file .entry)) p ⌝ }
+{
+    let low = two_at(file, p);
+    let high = two_at(file, p + 2);
+    low + 65536 * high
+}
+
+fn within(low: u32, high: u32, x: u32) -> bool
+    ensures { λ r. ⌜ r ≡ between low high x ⌝ }
+{
+    (low <= x) & (x <= high)
+}
+
+// The sizes are within the limits of refusal 2.
+fn sizes_fit(entities: u32, names: u32, credentials: u32) -> bool
+    ensures { λ r. ⌜ r ≡ (between 1 32 entities && between 1 32 names && between 0 256 credentials) ⌝ }
+{
+    within(1, 32, entities) & within(1, 32, names) & within(0, 256, credentials)
+}
+
+// Refusals 1 to 3, and the sizes.
+pub fn read_head(file: &[u8]) -> Head
+    ensures { λ r. ⌜ r ≡ headIn (now (file .entry)) ⌝ }
+{
+    if file.len() < 6 {
+        return no_sizes(1);
+    }
+    let entities = two_at(file, 0);
+    let names = two_at(file, 2);
+    let credentials = two_at(file, 4);
+    if !sizes_fit(entities, names, credentials) {
+        return no_sizes(2);
+    }
+    let n = credentials as usize;
+    if file.len() != 6 + 16 * n {
+        return no_sizes(3);
+    }
+    Head {
+        number: 0,
+        entities,
+        names,
+        credentials: n,
+    }
+}
+
+fn no_sizes(number: u32) -> Head
+    ensures { λ r. ⌜ r ≡ noSizes number ⌝ }
+{
+    Head {
+        number,
+        entities: 0,
+        names: 0,
+        credentials: 0,
+    }
+}
+
+fn below(file: &[u8], p: usize, limit: u32) -> bool
+    requires { ⌜ p < length (now file) ⌝ }
+    ensures { λ r. ⌜ r ≡ ltb (byte (now (file .entry)) p) limit ⌝ }
+{
+    wide(file[p]) < limit
+}
+
+// The entities and names that the kind uses are below e and r: A, r and b always, s from kind 1 on, t from kind 2 on, c from kind 3 on.
+fn in_range(file: &[u8], i: usize, e: u32, r: u32) -> bool
+    requires { ⌜ Stated (now file) i ⌝ ∗ ⌜ (e ≡ E (now file)) × (r ≡ R (now file)) ⌝ }
+    ensures { λ ok. ⌜ ok ≡ inRange (now (file .entry)) i ⌝ }
+{
+    let at = 6 + 8 * i;
+    let kind = file[at];
+    let entities = below(file, at + 1, e)
+        & below(file, at + 3, e)
+        & ((kind < 3) | below(file, at + 5, e));
+    let names = below(file, at + 2, r)
+        & ((kind < 1) | below(file, at + 4, r))
+        & ((kind < 2) | below(file, at + 6, r));
+    entities & names
+}
+
+// The bytes that the kind does not use are zero: s in kind 0, c up to kind 2, t up to kind 1, byte 7 always.
+fn zeroed(file: &[u8], i: usize) -> bool
+    requires { ⌜ Stated (now file) i ⌝ }
+    ensures { λ ok. ⌜ ok ≡ zeros (now (file .entry)) i ⌝ }
+{
+    let at = 6 + 8 * i;
+    let kind = file[at];
+    ((0 < kind) | (file[at + 4] == 0))
+        & ((2 < kind) | (file[at + 5] == 0))
+        & ((1 < kind) | (file[at + 6] == 0))
+        & (file[at + 7] == 0)
+}
+
+// The number of the first of refusals 4 to 7 that credential i has, or 0.
+fn fault(file: &[u8], h: Head, i: usize) -> u32
+    requires { ⌜ (Headed (now file) h) × (i < N (now file)) ⌝ }
+    ensures { λ r. ⌜ r ≡ firstNumber (credentialRows (now (file .entry)) i) ⌝ }
+{
+    if 5 < file[6 + 8 * i] {
+        return 4;
+    }
+    let e = h.entities;
+    let r = h.names;
+    if !in_range(file, i, e, r) {
+        return 5;
+    }
+    if !zeroed(file, i) {
+        return 6;
+    }
+    let v = read_period(file, h, i);
+    if v.until <= v.from {
+        return 7;
+    }
+    0
+}
+
+// Refusals 4 to 7 of all credentials, in file order.
+fn judge_credentials(file: &[u8], h: Head) -> Refusal
+    requires { ⌜ Headed (now file) h ⌝ }
+    ensures { λ r. ⌜ r ≡ firstRefusal (credentialsRows (now (file .entry))) ⌝ }
+{
+    let n = h.credentials;
+    let mut i = 0;
+    while i < n {
+        let number = fault(file, h, i);
+        if number != 0 {
+            return Refusal {
+                number,
+                place: i as u32,
+            };
+        }
+        i += 1;
+    }
+    Refusal {
+        number: 0,
+        place: 0,
+    }
+}
+
+// Refusals 1 to 7.
+pub fn judge(file: &[u8]) -> Refusal
+    ensures { λ r. ⌜ r ≡ firstRefusal (headRows (now (file .entry)) ++ credentialsRows (now (file .entry))) ⌝ }
+{
+    let h = read_head(file);
+    if h.number != 0 {
+        return Refusal {
+            number: h.number,
+            place: 0,
+        };
+    }
+    judge_credentials(file, h)
+}
+
+fn role_of(issuer: u8, name: u8) -> Role
+    ensures { λ r. ⌜ r ≡ roleOf issuer name ⌝ }
+{
+    Role {
+        issuer: Entity(issuer),
+        name: RoleName(name),
+    }
+}
+
+// The body of a two-role kind.
+fn joined(kind: u8, first: Role, second: Role) -> Body
+    requires { ⌜ (3 ≤ kind) × (kind ≤ 5) ⌝ }
+    ensures { λ r. ⌜ joinedOf kind first second ≡ some r ⌝ }
+{
+    match kind {
+        3 => Body::Intersection(first, second),
+        4 => Body::Union(first, second),
+        5 => Body::Disjoint(first, second),
+        _ => Body::Set(0),
+    }
+}
+
+// The body of a kind from 0 to 5; the last arm is not reached.
+fn body_of(kind: u8, b: u8, s: u8, c: u8, t: u8) -> Body
+    requires { ⌜ (kind ≤ 5) × (b < 32) ⌝ }
+    ensures { λ r. ⌜ bodyOf kind b s c t ≡ some r ⌝ }
+{
+    match kind {
+        0 => Body::Set(1u32 << b),
+        1 => Body::Inclusion(role_of(b, s)),
+        2 => Body::Linked(role_of(b, s), RoleName(t)),
+        3..=5 => joined(kind, role_of(b, s), role_of(c, t)),
+        _ => Body::Set(0),
+    }
+}
+
+// The period of credential i.
+pub fn read_period(file: &[u8], h: Head, i: usize) -> Period
+    requires { ⌜ (Headed (now file) h) × (i < N (now file)) ⌝ }
+    ensures { λ r. ⌜ r ≡ periodIn (now (file .entry)) i ⌝ }
+{
+    let n = h.credentials;
+    let p = 6 + 8 * n + 8 * i;
+    Period {
+        from: four_at(file, p),
+        until: four_at(file, p + 4),
+    }
+}
+
+fn value_at(file: &[u8], h: Head, i: usize) -> Credential
+    requires { ⌜ (Headed (now file) h) × (i < N (now file)) × (firstNumber (credentialRows (now file) i) ≡ 0) ⌝ }
+    ensures { λ r. ⌜ found r ≡ foundOf (now (file .entry)) i (bodyIn (now (file .entry)) i) ⌝ }
+{
+    let at = 6 + 8 * i;
+    let v = read_period(file, h, i);
+    Credential {
+        head: role_of(file[at + 1], file[at + 2]),
+        body: body_of(
+            file[at],
+            file[at + 3],
+            file[at + 4],
+            file[at + 5],
+            file[at + 6],
+        ),
+        from: v.from,
+        to: v.until,
+    }
+}
+
+// The credential at a position, if the head passes 1 to 3 and the credential 4 to 7.
+pub fn read_credential(file: &[u8], i: usize) -> Found
+    ensures { λ r. ⌜ r ≡ foundIn (now (file .entry)) i ⌝ }
+{
+    let h = read_head(file);
+    let n = h.credentials;
+    if h.number != 0 {
+        return Found::End;
+    }
+    if n <= i {
+        return Found::End;
+    }
+    if fault(file, h, i) != 0 {
+        return Found::End;
+    }
+    Found::Credential(value_at(file, h, i))
+}

@@ -1,0 +1,99 @@
+-- What the private functions require and do.
+--
+use mathlib.Core.Path.{_≡_}
+use mathlib.Core.Logic.{_⊎_, _↔_}
+use mathlib.Core.List.{List}
+use Prim.Native.Nat.{ℕ, _+_, _*_, _≤_, _<_}
+use lib.ListN.{getD}
+use Rattle.meaning.specs.Credentials.{Body, set, role, link, _∩_, _⊙_, _⊗_, Period, Credential}
+use Rattle.meaning.specs.Table.{bit}
+use Rattle.file.specs.Format.{credentialIn}
+use Rattle.store.specs.Entries.{keyOf, Has}
+use Rattle.rules.specs.Uses.{Use, UsedBy, Uses, Listed, Fitting}
+use Rattle.firing.specs.Firing.{Spanned, Formed}
+use Rattle.firing.specs.Steps.{Kept, Gains}
+
+-- one span, where the period covers its first minute e
+abbrev pub Bit : ℕ → ℕ → ℕ → ℕ → ℕ → Type 0
+Bit e from until i m = (s : ℕ) → bit m s ≡ 1 ↔ ((s ≡ i) × (from ≤ e) × (e < until))
+
+-- span s is among the first n, and the period covers its first minute
+abbrev pub During : List ℕ → ℕ → Period → ℕ → Type 0
+During es n v s = (s < n) × (v .from ≤ getD es s 0) × (getD es s 0 < v .until)
+
+-- the key of the set that a body states for the head Ar
+abbrev pub States : Body → ℕ → ℕ → Type 0
+States (set X) Ar k = k ≡ keyOf Ar X
+States (role Bs) Ar k = ⊥
+States (link Bs t) Ar k = ⊥
+States (Bs ∩ Ct) Ar k = ⊥
+States (Bs ⊙ Ct) Ar k = ⊥
+States (Bs ⊗ Ct) Ar k = ⊥
+
+-- what a credential states, and how it is used, in the spans that its period covers
+abbrev pub SetOf : List ℕ → ℕ → Credential → Spanned
+SetOf es n c k s = States (c .statement .body) (c .statement .head) k × During es n (c .period) s
+
+abbrev pub UseOf : List ℕ → ℕ → Credential → Use → ℕ → Type 0
+UseOf es n c w s = UsedBy (c .statement .body) (c .statement .head) w × During es n (c .period) s
+
+-- a use of an accepted file
+pub record Proper (u : Use) : Type 0 where
+  pub fitting : Fitting u
+  pub kind : (1 ≤ u .kind) × (u .kind ≤ 5)
+  pub named : 1024 ≤ u .family → u .kind ≡ 2
+  pub name : u .kind ≡ 2 → u .family < 1024 → u .other < 32
+
+-- a statement's head is a role, and its uses are proper
+pub record Usable (e : Body) (Ar : ℕ) : Type 0 where
+  pub head : Ar < 1024
+  pub proper : (u : Use) → UsedBy e Ar u → Proper u
+
+-- room for two more uses
+pub record Room (codes valid lists : List ℕ) (b h : ℕ) : Type 0 where
+  pub listed : Listed codes valid lists b h
+  pub formed : Formed codes b h
+  pub few : (b + 2 ≤ 512) × (h + 2 ≤ 512)
+
+-- the uses in New were added with their spans, at most two
+pub record UsesAdded (New : Use → ℕ → Type 0) (codes valid : List ℕ) (b h : ℕ) (codes′ valid′ lists′ : List ℕ) (b′ h′ : ℕ) : Type 0 where
+  pub listed : Listed codes′ valid′ lists′ b′ h′
+  pub formed : Formed codes′ b′ h′
+  pub few : (b′ ≤ b + 2) × (h′ ≤ h + 2)
+  pub exact : (w : Use) (s : ℕ) → Fitting w → Uses codes′ valid′ b′ h′ w s ↔ (Uses codes valid b h w s ⊎ New w s)
+
+-- two uses in the spans v
+abbrev pub Either : Use → Use → ℕ → Use → ℕ → Type 0
+Either a b v w s = ((w ≡ a) ⊎ (w ≡ b)) × (bit v s ≡ 1)
+
+-- the uses of a body in the spans v, and the key of its set
+abbrev pub BodyUses : Body → ℕ → ℕ → Use → ℕ → Type 0
+BodyUses e Ar v w s = UsedBy e Ar w × (bit v s ≡ 1)
+
+abbrev pub BodySets : Body → ℕ → ℕ → Spanned
+BodySets e Ar v k s = States e Ar k × (bit v s ≡ 1)
+
+-- entries and uses, with room for those of one more credential
+pub record Ready (limit : ℕ) (keys spans slots links codes valid lists : List ℕ) (b h n : ℕ) : Type 0 where
+  pub kept : Kept keys spans slots links n
+  pub few : (n ≤ limit) × (limit ≤ 1024)
+  pub room : Room codes valid lists b h
+
+-- a credential was loaded, by the first m ends of es
+pub record CredentialLoaded (es : List ℕ) (m : ℕ) (c : Credential) (limit : ℕ) (keys spans codes valid : List ℕ) (b h n : ℕ) (keys′ spans′ slots′ links′ codes′ valid′ lists′ : List ℕ) (b′ h′ n′ : ℕ) : Type 0 where
+  pub sets : Gains limit keys spans n (SetOf es m c) keys′ spans′ slots′ links′ n′
+  pub uses : UsesAdded (UseOf es m c) codes valid b h codes′ valid′ lists′ b′ h′
+
+-- for one of the positions below i
+abbrev pub Before : ℕ → (ℕ → Type 0) → Type 0
+Before i P = (j : ℕ) × (j < i) × P j
+
+-- the first i credentials of a file are loaded, by the first m ends of es
+pub record Part (f es : List ℕ) (m i limit : ℕ) (keys spans slots links codes valid lists : List ℕ) (b h n : ℕ) : Type 0 where
+  pub kept : Kept keys spans slots links n
+  pub few : n ≤ limit
+  pub listed : Listed codes valid lists b h
+  pub formed : Formed codes b h
+  pub small : (b ≤ 2 * i) × (h ≤ 2 * i)
+  pub uses : (w : Use) (s : ℕ) → Fitting w → Uses codes valid b h w s ↔ Before i (λ j. UseOf es m (credentialIn f j) w s)
+  pub sets : (k s : ℕ) → Has keys spans n k s ↔ Before i (λ j. SetOf es m (credentialIn f j) k s)

@@ -1,0 +1,9 @@
+pub mod Lists
+pub mod Credentials
+pub mod Rules
+pub mod Sequence
+pub mod Periods
+pub mod Members
+pub mod Proofs
+pub mod Table
+pub mod Cases

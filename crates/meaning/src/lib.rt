@@ -1,0 +1,1 @@
+// The meaning of RT^T_+: definitions in specs/, theorems in proofs/. There is no code here.

@@ -1,0 +1,4 @@
+pub mod CodeLaws
+pub mod Linking
+pub mod Placing
+pub mod UseLaws

@@ -1,0 +1,5 @@
+pub mod Keys
+pub mod Chains
+pub mod Searches
+pub mod Stores
+pub mod Adding

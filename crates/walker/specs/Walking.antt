@@ -1,0 +1,54 @@
+-- Walking a file's credentials (document 01, 'The credentials file'). Every walker value has a meaning, also one that `walk` did not make.
+use mathlib.Core.List.{List}
+use Prim.Native.Nat.{ℕ, _+_}
+use lib.Dec.{eqb}
+use denote.Ref.{RefT, now}
+use Rattle.meaning.specs.Lists.{if}
+use Rattle.file.specs.Refusals.{Outcome, done, refused}
+use Rattle.file.specs.Reading.{read}
+use Rattle.file.specs.Values.{foundIn, refusalOf}
+use Rattle.file.specs.declared.Found.{Found}
+use Rattle.file.specs.declared.Found.the-variants.{Credential, End}
+use Rattle.file.specs.declared.Refusal.{Refusal}
+use Rattle.walker.specs.declared.Walker.{Walker}
+use Rattle.walker.specs.declared.Entry as E
+use Rattle.walker.specs.declared.Entry.the-variants as N
+
+-- refusals 1 to 8 of the bytes
+abbrev pub opened : List ℕ → Refusal
+opened f = refusalOf {A = ℕ} (read f 0)
+
+-- a walker over the bytes, at the first credential; or with number and place of their refusal
+abbrev pub walkerOf : RefT (List ℕ) → Walker
+walkerOf f = record { file = f; at = 0; number = opened (now f) .number; place = opened (now f) .place }
+
+-- what stands at a place; a refused walker is at its end
+abbrev pub foundAt : List ℕ → ℕ → ℕ → Found
+foundAt f at number = if (eqb number 0) (foundIn f at) End
+
+abbrev pub following : Found → ℕ → ℕ
+following (Credential c) at = at + 1
+following End at = at
+
+-- the next place: one further where a credential stands, the same at the end
+abbrev pub placeAfter : List ℕ → ℕ → ℕ → ℕ
+placeAfter f at number = following (foundAt f at number) at
+
+abbrev pub nextOf : Walker → Walker
+nextOf w = record { file = w .file; at = placeAfter (now (w .file)) (w .at) (w .number); number = w .number; place = w .place }
+
+abbrev pub credentialOf : Walker → Found
+credentialOf w = foundAt (now (w .file)) (w .at) (w .number)
+
+-- the credential at a place of a file that passes 1 to 8
+abbrev pub nthOf : List ℕ → ℕ → Found
+nthOf f at = foundAt f at (opened f .number)
+
+-- document 01's number and place where a file is refused; otherwise what stands at the place
+abbrev pub entryOut : Outcome Found → E.Entry
+entryOut (done (Credential c)) = N.Credential c
+entryOut (done End) = N.End
+entryOut (refused n p) = N.Refused n p
+
+abbrev pub entryIn : List ℕ → ℕ → E.Entry
+entryIn f at = entryOut (read f (foundIn f at))
