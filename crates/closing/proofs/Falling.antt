@@ -14,7 +14,7 @@ use Rattle.meaning.specs.Table.{bit}
 use Rattle.meaning.proofs.Bits.{bit-zero, bit-suc, bit-below-two}
 use Rattle.store.specs.Entries.{Grown}
 use Rattle.store.proofs.Chains.{equal-or-not}
-use Rattle.firing.proofs.Gaining.{below-or-not}
+use Rattle.heads.proofs.Gaining.{below-or-not}
 use Rattle.closing.specs.Giving.{left, sum, lefts}
 
 -- ---- bits

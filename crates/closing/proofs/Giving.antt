@@ -15,9 +15,11 @@ use Rattle.store.specs.Entries.{keyOf, roleIn, setIn, Has}
 use Rattle.store.proofs.Chains.{equal-or-not}
 use Rattle.store.proofs.Keys.{role-of-key, set-of-key}
 use Rattle.store.proofs.Stores.{grown-trans, grown-has}
-use Rattle.firing.specs.Firing.{Spanned, Held, Gained, Found, Combined, Fires}
-use Rattle.firing.proofs.Gaining.{below-or-not, over-more, gained-over, gained-same, gained-then}
-use Rattle.firing.proofs.Heads.{no-bit}
+use Rattle.heads.specs.Gaining.{Spanned}
+use Rattle.heads.proofs.Gaining.{below-or-not, over-more}
+use Rattle.heads.proofs.Heads.{no-bit}
+use Rattle.firing.specs.Firing.{Held, Gained, Found, Combined, Fires}
+use Rattle.firing.proofs.Gained.{gained-over, gained-same, gained-then}
 use Rattle.firing.proofs.Firings.{found-before, fires-before, fires-after}
 use Rattle.closing.specs.Closing.{Policy, Given, TooMany, Closed, Closes}
 use Rattle.closing.specs.Giving.{Gave}

@@ -8,7 +8,8 @@ use Rattle.meaning.specs.Sequence.{S, Gives}
 use Rattle.meaning.specs.Table.{bit}
 use Rattle.store.specs.Entries.{roleIn, setIn, Has}
 use Rattle.rules.specs.Uses.{Use, UsedBy, Uses, Listed, Fitting}
-use Rattle.firing.specs.Firing.{Held, Over, Found, Formed}
+use Rattle.heads.specs.Gaining.{Over}
+use Rattle.firing.specs.Firing.{Held, Found, Formed}
 
 -- the lists of uses have exactly the uses of the statements valid in each span
 pub record Policy (ss : ℕ → List Statement) (codes valid lists : List ℕ) (b h : ℕ) : Type 0 where

@@ -24,8 +24,8 @@ use Rattle.file.proofs.Credentials.{getD-map-lt, length-below, getD-below}
 use Rattle.meaning.proofs.Rows.{key, RowAt, Completed, completed-table, table-at, table-ascending, members-derivable}
 use Rattle.store.specs.Entries.{keyOf, roleIn, setIn, Stored}
 use Rattle.store.proofs.Keys.{role-of-key, set-of-key, set-below, key-of-parts}
+use Rattle.heads.proofs.Gaining.{some-bit}
 use Rattle.firing.specs.Firing.{Found}
-use Rattle.firing.proofs.Gaining.{some-bit}
 use Rattle.closing.specs.Closing.{Closed, Finished, TooMany}
 use Rattle.loading.specs.Loading.{statementsIn}
 use Rattle.writing.specs.Columns.{rowAt, rowsOf}

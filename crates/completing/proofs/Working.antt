@@ -1,22 +1,64 @@
 -- What loading, closing and writing come to: the columns of the table, or a table longer than the lists.
-use mathlib.Core.Path.{_≡_, sym, ap, _∙_, subst}
+use mathlib.Core.Path.{_≡_, refl, sym, ap, _∙_, subst}
 use mathlib.Core.Logic.{_↔_}
 use mathlib.Core.List.{List, List·Memᴰ as Mem}
-use Prim.Native.Nat.{ℕ, _≤_, _<_, zero-le}
+use Prim.Native.Nat.{ℕ, zero, suc, _≤_, _<_, zero-le}
 use native.Mathlib.Omega.{arith}
-use lib.ListN.{length, getD}
+use lib.ListN.{length, getD, replicate, length-replicate}
 use Rattle.meaning.specs.Table.{Row, table}
 use Rattle.file.specs.Format.{credentials}
 use Rattle.file.specs.Conditions.{Accepted}
 use Rattle.file.proofs.Accepted.{accepted-fits}
 use Rattle.store.proofs.Stores.{distinct-keys}
 use Rattle.firing.specs.Firing.{Held}
-use Rattle.closing.specs.Closing.{Closed, Finished, TooMany}
-use Rattle.loading.specs.Loading.{bySpan}
+use Rattle.closing.specs.Closing.{Closed, Finished, TooMany, Closes}
+use Rattle.loading.specs.Loading.{bySpan, Blank, Loaded}
 use Rattle.writing.specs.Columns.{column, rowAt, rowsOf, Written}
 use Rattle.writing.proofs.Gathering.{rows-gathered}
-use Rattle.completing.specs.Completing.{Worked}
+use Rattle.completing.specs.Completing.{Worked, Filled}
 use Rattle.completing.proofs.Tables.{is-table, too-many}
+
+zeros-at : (n i : ℕ) → _≡_ {A = ℕ} (getD (replicate n 0) i 0) 0
+zeros-at zero i = refl
+zeros-at (suc n) zero = refl
+zeros-at (suc n) (suc i) = zeros-at n i
+
+-- in a list of zeros nothing is done
+pub none-done : {done : List ℕ} (n : ℕ) → done ≡ replicate n 0 → (i : ℕ) → getD done i 0 ≡ 0
+none-done n e i = ap (λ (l : List ℕ). getD l i 0) e ∙ zeros-at n i
+
+-- a working store of zeros
+pub blank : {keys found slots links codes valid lists : List ℕ} → length keys ≡ 1024 → length found ≡ 1024 → slots ≡ replicate 3072 0 → links ≡ replicate 2048 0 → length codes ≡ 1024
+    → length valid ≡ 512 → lists ≡ replicate 2592 0 → Blank keys found slots links codes valid lists
+blank k f s l c v t = record {
+  entries = (k, f, ap length s ∙ length-replicate {A = ℕ} 3072 0, ap length l ∙ length-replicate {A = ℕ} 2048 0);
+  uses = (c, v, ap length t ∙ length-replicate {A = ℕ} 2592 0);
+  slotted = λ p _. none-done 3072 s p;
+  linked = λ p _. none-done 2048 l p;
+  listed = λ p _. none-done 2592 t p;
+}
+
+-- more entries than the limit were loaded
+pub filled-over : {f keys found slots links done codes valid lists : List ℕ} {limit b h n : ℕ} → Loaded f limit keys found slots links done codes valid lists b h n → limit < n
+    → Filled f limit keys found slots links done n
+filled-over d h = record {
+  held = λ l. absurd (omega arith);
+  closed = λ l. absurd (omega arith);
+  finished = λ l. absurd (omega arith);
+  over = d .over;
+}
+
+-- what was loaded is closed
+pub filled : {f keys found slots links done codes valid lists keys′ found′ slots′ links′ done′ : List ℕ} {limit b h n r : ℕ}
+    → Loaded f limit keys found slots links done codes valid lists b h n → n ≤ limit
+    → Closes limit codes valid lists b h keys found done n keys′ found′ slots′ links′ done′ r → (r ≤ limit → Finished found′ done′ r)
+    → Filled f limit keys′ found′ slots′ links′ done′ r
+filled {f} d h c e = record {
+  held = c .held;
+  closed = λ l. c .closed l (bySpan f) (d .policy h) (d .closed h);
+  finished = e;
+  over = λ l. c .over l (bySpan f) (d .policy h) (d .closed h);
+}
 
 module _ (f : List ℕ) (accepted : Accepted f) (size : ℕ) where
   pub worked-over : {roles sets spans : List ℕ} {r : ℕ} → size < r → TooMany (bySpan f) size → Worked f size roles sets spans r

@@ -1,5 +1,215 @@
-// The answer of completing the table: the count of memberships, or a refusal. specs/Completing.antt states the call; its laws are in proofs/.
+// Completing the table: every membership of a credentials file with all spans in which the rules give it, in three lent lists.
+ghost use mathlib.Core.Path.{_≡_};
+ghost use lib.ListN.{length, replicate};
+ghost use Rattle.loading.specs.Loading.{Loadable, Blank};
+ghost use Rattle.completing.specs.Completing.{lent, oneLength, ending, completing, says, Worked, Filled};
+
+// The count of memberships valid at one minute or more, or a refusal.
 pub enum Completed {
     Memberships(u32),
     Refused { number: u32, place: u32 },
+}
+
+fn room_for_keys() -> [u64; 1024]
+    ensures { λ r. ⌜ length r ≡ 1024 ⌝ }
+{
+    [0; 1024]
+}
+
+fn room_for_slots() -> [u16; 3072]
+    ensures { λ r. ⌜ r ≡ replicate 3072 0 ⌝ }
+{
+    [0; 3072]
+}
+
+fn room_for_links() -> [u16; 2048]
+    ensures { λ r. ⌜ r ≡ replicate 2048 0 ⌝ }
+{
+    [0; 2048]
+}
+
+fn room_for_lists() -> [u16; 2592]
+    ensures { λ r. ⌜ r ≡ replicate 2592 0 ⌝ }
+{
+    [0; 2592]
+}
+
+fn room_for_codes() -> [u32; 1024]
+    ensures { λ r. ⌜ length r ≡ 1024 ⌝ }
+{
+    [0; 1024]
+}
+
+fn room_for_valid() -> [u64; 512]
+    ensures { λ r. ⌜ length r ≡ 512 ⌝ }
+{
+    [0; 512]
+}
+
+// Loads the file and closes what was loaded; an answer above the limit says that there are too many memberships.
+fn fill(
+    keys: &mut [u64],
+    found: &mut [u64],
+    slots: &mut [u16],
+    links: &mut [u16],
+    done: &mut [u64],
+    codes: &mut [u32],
+    valid: &mut [u64],
+    lists: &mut [u16],
+    file: &[u8],
+    ends: &[u32],
+    count: usize,
+    limit: usize,
+) -> usize
+    requires { ⌜ Loadable (now file) (now ends) count limit ⌝ ∗ ⌜ Blank (now keys) (now found) (now slots) (now links) (now codes) (now valid) (now lists) ⌝ ∗ ⌜ now done ≡ replicate limit 0 ⌝ }
+    ensures { λ r. ⌜ Filled (now (file .entry)) limit (now (keys .exit)) (now (found .exit)) (now (slots .exit)) (now (links .exit)) (now (done .exit)) r ⌝ }
+{
+    let a = loading::load(
+        file,
+        ends,
+        count,
+        keys,
+        found,
+        slots,
+        links,
+        codes,
+        valid,
+        lists,
+        limit,
+    );
+    let n = a.entries;
+    if limit < n {
+        return n;
+    }
+    closing::close(
+        keys,
+        found,
+        slots,
+        links,
+        done,
+        codes,
+        valid,
+        lists,
+        a.uses,
+        n,
+        limit,
+    )
+}
+
+// Fills the store and writes its rows. The lent spans serve as the done spans until they are written.
+fn work(
+    roles: &mut [u32],
+    sets: &mut [u32],
+    spans: &mut [u64],
+    keys: &mut [u64],
+    found: &mut [u64],
+    slots: &mut [u16],
+    links: &mut [u16],
+    codes: &mut [u32],
+    valid: &mut [u64],
+    lists: &mut [u16],
+    file: &[u8],
+    ends: &[u32],
+    count: usize,
+) -> usize
+    requires { ⌜ Loadable (now file) (now ends) count (length (now roles)) ⌝ ∗ ⌜ Blank (now keys) (now found) (now slots) (now links) (now codes) (now valid) (now lists) ⌝ ∗ ⌜ (length (now sets) ≡ length (now roles)) × (length (now spans) ≡ length (now roles)) ⌝ }
+    ensures { λ r. ⌜ Worked (now (file .entry)) (length (now (roles .entry))) (now (roles .exit)) (now (sets .exit)) (now (spans .exit)) r ⌝ }
+{
+    let limit = roles.len();
+    writing::clear64(spans);
+    let r = fill(
+        keys,
+        found,
+        slots,
+        links,
+        spans,
+        codes,
+        valid,
+        lists,
+        file,
+        ends,
+        count,
+        limit,
+    );
+    if limit < r {
+        return r;
+    }
+    writing::write_rows(keys, found, links, r, roles, sets, spans);
+    r
+}
+
+// With a working store of its own.
+fn run(
+    roles: &mut [u32],
+    sets: &mut [u32],
+    spans: &mut [u64],
+    file: &[u8],
+    ends: &[u32],
+    count: usize,
+) -> usize
+    requires { ⌜ Loadable (now file) (now ends) count (length (now roles)) ⌝ ∗ ⌜ (length (now sets) ≡ length (now roles)) × (length (now spans) ≡ length (now roles)) ⌝ }
+    ensures { λ r. ⌜ Worked (now (file .entry)) (length (now (roles .entry))) (now (roles .exit)) (now (sets .exit)) (now (spans .exit)) r ⌝ }
+{
+    let mut keys = room_for_keys();
+    let mut found = room_for_keys();
+    let mut slots = room_for_slots();
+    let mut links = room_for_links();
+    let mut codes = room_for_codes();
+    let mut valid = room_for_valid();
+    let mut lists = room_for_lists();
+    work(
+        roles,
+        sets,
+        spans,
+        &mut keys,
+        &mut found,
+        &mut slots,
+        &mut links,
+        &mut codes,
+        &mut valid,
+        &mut lists,
+        file,
+        ends,
+        count,
+    )
+}
+
+fn of_one_length(roles: &[u32], sets: &[u32], spans: &[u64]) -> bool
+    ensures { λ r. ⌜ r ≡ oneLength (lent (now (roles .entry)) (now (sets .entry)) (now (spans .entry))) ⌝ }
+{
+    let n = roles.len();
+    (sets.len() == n) & (spans.len() == n) & ((1 <= n) & (n <= 1024))
+}
+
+// Completes the table (document 01): the reply, and the three lists as the call leaves them.
+pub fn complete(file: &[u8], roles: &mut [u32], sets: &mut [u32], spans: &mut [u64]) -> Completed
+    ensures { λ r. ⌜ ending (says r) (now (roles .exit)) (now (sets .exit)) (now (spans .exit)) ≡ completing (now (file .entry)) (lent (now (roles .entry)) (now (sets .entry)) (now (spans .entry))) ⌝ }
+{
+    let mut ends = [0u32; 64];
+    let s = ends::survey(file, &mut ends);
+    if s.number != 0 {
+        return Completed::Refused {
+            number: s.number,
+            place: s.place,
+        };
+    }
+    if !of_one_length(roles, sets, spans) {
+        return Completed::Refused {
+            number: 9,
+            place: 0,
+        };
+    }
+    let count = ends::span_count(s.count);
+    let r = run(roles, sets, spans, file, &ends, count);
+    let size = roles.len();
+    if size < r {
+        writing::clear32(roles);
+        writing::clear32(sets);
+        writing::clear64(spans);
+        return Completed::Refused {
+            number: 10,
+            place: 0,
+        };
+    }
+    Completed::Memberships(r as u32)
 }

@@ -1,7 +1,9 @@
 // Reads a credentials file on standard input and prints how many ends it has, then each on a line; or `refused`, number, place.
 ghost use mathlib.Core.Path.{_≡_};
+ghost use Prim.Native.Nat.{_≤_};
 ghost use lib.ListN.{length};
 use libc::STDIN_FILENO;
+use libc::STDOUT_FILENO;
 
 // One byte more than the longest valid file, so that a longer input is refused as one.
 fn room() -> [u8; 4103]
@@ -10,13 +12,32 @@ fn room() -> [u8; 4103]
     [0; 4103]
 }
 
+// Writes the first n bytes of a line.
+fn write_line(line: &[u8], n: usize)
+    requires { ⌜ n ≤ length (now line) ⌝ }
+{
+    io::write_all(STDOUT_FILENO, &line[..n]);
+}
+
+fn print_number(x: u32) {
+    let mut line = [0u8; 128];
+    let n = text::number_line(&mut line, x);
+    write_line(&line, n);
+}
+
+fn print_refusal(number: u32, place: u32) {
+    let mut line = [0u8; 128];
+    let n = text::refused_line(&mut line, number, place);
+    write_line(&line, n);
+}
+
 fn print_ends(file: &[u8]) {
     let e = ends::ends_of(file);
     if e.number != 0 {
-        printing::print_refusal(e.number, e.place);
+        print_refusal(e.number, e.place);
         return;
     }
-    printing::print_number(e.count);
+    print_number(e.count);
     let list = e.ends;
     let count = e.count as usize;
     let mut i = 0;
@@ -24,7 +45,7 @@ fn print_ends(file: &[u8]) {
         if count <= i {
             return;
         }
-        printing::print_number(list[i]);
+        print_number(list[i]);
         i += 1;
     }
 }

@@ -1,14 +1,16 @@
 -- Which bytes of a statement its kind uses, as the tests of refusals 5 and 6 in the order of the code.
 use mathlib.Core.Path.{_≡_, refl, ap, ap₂, sym, _∙_, subst}
-use mathlib.Core.Bool.{Bool, _&&_, _||_, and-assoc, and-true}
+use mathlib.Core.Bool.{Bool, true, false, _&&_, _||_, not, and-assoc, and-true}
 use mathlib.Core.List.{List, [], _∷_}
-use Prim.Native.Nat.{ℕ, zero, suc, _≤_}
+use Prim.Native.Nat.{ℕ, zero, suc, _≤_, _<_}
 use native.Mathlib.Omega.{arith}
 use native.Mathlib.Nat.{add-zero}
 use lib.Dec.{T, eqb, ltb}
 use Rattle.meaning.specs.Lists.{all}
 use Rattle.file.specs.Format.{roleOf, joinedOf, bodyOf, byte, E, R, statementAt, field}
 use Rattle.file.specs.Reading.{uses, inRange, zeros}
+use Rattle.file.specs.Values.{usedBy}
+use Rattle.file.specs.declared.Used.{Used}
 use Rattle.meaning.proofs.Tests.{and-left, and-right}
 
 -- what holds of each of the six kinds
@@ -21,13 +23,12 @@ by-kind P a b c d e f (suc (suc (suc (suc zero)))) h = e
 by-kind P a b c d e f (suc (suc (suc (suc (suc zero))))) h = f
 by-kind P a b c d e f (suc (suc (suc (suc (suc (suc k)))))) h = absurd (omega arith)
 
--- Bytes 1 to 7 of a statement: issuer A, name r, b, s, c, t, and one that is always zero. Used are A, r and b always, s from kind 1 on,
--- t from kind 2 on, c from kind 3 on.
+-- Bytes 1 to 7 of a statement: issuer A, name r, b, s, c, t, and one that is always zero. Used are A, r and b always, s, c and t by kind.
 abbrev pub ranged : ℕ → (ℕ → Bool) → (ℕ → Bool) → Bool
-ranged k p q = (p 1 && p 3 && (ltb k 3 || p 5)) && (q 2 && (ltb k 1 || q 4) && (ltb k 2 || q 6))
+ranged k p q = (p 1 && p 3 && (not (usedBy k .c) || p 5)) && (q 2 && (not (usedBy k .s) || q 4) && (not (usedBy k .t) || q 6))
 
 abbrev pub blank : ℕ → (ℕ → Bool) → Bool
-blank k z = (ltb 0 k || z 4) && (ltb 2 k || z 5) && (ltb 1 k || z 6) && z 7
+blank k z = (usedBy k .s || z 4) && (usedBy k .c || z 5) && (usedBy k .t || z 6) && z 7
 
 pub ranged-kind : (k : ℕ) → k ≤ 5 → (p q : ℕ → Bool) → all p (uses k .entities) && all q (uses k .names) ≡ ranged k p q
 ranged-kind k h p q =
@@ -41,11 +42,25 @@ blank-kind k h z =
     by-kind (λ (n : ℕ). all z (uses n .unused) ≡ blank n z)
     (simp (and-assoc, and-true)) (simp (and-assoc, and-true)) (simp (and-assoc, and-true)) one one one k h
 
+-- the two-role kinds use all three
+pub used-joined : (k : ℕ) → k ≤ 5 → 3 ≤ k → record { s = true; c = true; t = true } ≡ usedBy k
+used-joined =
+    by-kind (λ k. 3 ≤ k → record { s = true; c = true; t = true } ≡ usedBy k) (λ h. absurd (omega arith)) (λ h. absurd (omega arith)) (λ h. absurd (omega arith)) (λ h. refl) (λ h. refl) (λ h. refl)
+
+pub used-none : (k : ℕ) → 5 < k → record { s = false; c = false; t = false } ≡ usedBy k
+used-none (suc (suc (suc (suc (suc (suc k)))))) h = refl
+used-none (suc (suc (suc (suc (suc zero))))) h = absurd (omega arith)
+used-none (suc (suc (suc (suc zero)))) h = absurd (omega arith)
+used-none (suc (suc (suc zero))) h = absurd (omega arith)
+used-none (suc (suc zero)) h = absurd (omega arith)
+used-none (suc zero) h = absurd (omega arith)
+used-none zero h = absurd (omega arith)
+
 -- every kind uses b
 pub used-b : (k : ℕ) → k ≤ 5 → (p q : ℕ → Bool) → T (all p (uses k .entities) && all q (uses k .names)) → T (p 3)
 used-b k h p q t =
-    let c : Bool = ltb k 3 || p 5 in
-    let u : T (p 1 && p 3 && c) = and-left (p 1 && p 3 && c) (q 2 && (ltb k 1 || q 4) && (ltb k 2 || q 6)) (subst T (ranged-kind k h p q) t) in
+    let c : Bool = not (usedBy k .c) || p 5 in
+    let u : T (p 1 && p 3 && c) = and-left (p 1 && p 3 && c) (q 2 && (not (usedBy k .s) || q 4) && (not (usedBy k .t) || q 6)) (subst T (ranged-kind k h p q) t) in
     and-right (p 1) (p 3) (and-left (p 1 && p 3) c u)
 
 pub kind-at : (f : List ℕ) (i : ℕ) → field f i 0 ≡ byte f (statementAt i)

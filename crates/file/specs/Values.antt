@@ -6,12 +6,13 @@ use mathlib.Core.Option.{Option, none, some}
 use Prim.Native.Nat.{ℕ, _<_, _≤_}
 use lib.Dec.{eqb, ltb}
 use lib.ListN.{length}
-use Rattle.meaning.specs.Lists.{if}
+use Rattle.meaning.specs.Lists.{if, any}
 use Rattle.meaning.specs.Credentials as M
 use Rattle.meaning.specs.Credentials.{_⟵_, _during_}
 use Rattle.file.specs.Refusals.{Row, Outcome, first, numberOf, placeOf}
-use Rattle.file.specs.Format.{statedBy, credentialIn, E, R, N, lengthFor, field, fromOf, toOf, roleOf, roleNumber, meaningOf, bodyIn, periodOf}
-use Rattle.file.specs.Reading.{headRows, credentialRows}
+use Rattle.file.specs.Format.{statedBy, credentialIn, E, R, N, lengthFor, field, roleOf, roleNumber, meaningOf, bodyIn, periodOf}
+use Rattle.file.specs.Reading.{uses, headRows, credentialRows}
+use Rattle.file.specs.declared.Used.{Used}
 use Rattle.file.specs.declared.Head.{Head}
 use Rattle.file.specs.declared.Refusal.{Refusal}
 use Rattle.file.specs.declared.Period.{Period}
@@ -33,6 +34,10 @@ firstNumber rows = firstRefusal rows .number
 -- no row holds
 abbrev pub clear : List Row → Bool
 clear rows = eqb (firstNumber rows) 0
+
+-- which of s, c and t a kind uses
+abbrev pub usedBy : ℕ → Used
+usedBy kind = record { s = any (eqb 4) (uses kind .names); c = any (eqb 5) (uses kind .entities); t = any (eqb 6) (uses kind .names) }
 
 abbrev pub noSizes : ℕ → Head
 noSizes number = record { number = number; entities = 0; names = 0; credentials = 0 }
@@ -65,7 +70,7 @@ abbrev pub readable : List ℕ → ℕ → Bool
 readable f i = clear (headRows f) && ltb i (N f) && clear (credentialRows f i)
 
 abbrev pub valueOf : List ℕ → ℕ → Body → Credential
-valueOf f i e = record { head = roleOf (field f i 1) (field f i 2); body = e; from = fromOf f i; to = toOf f i }
+valueOf f i e = record { head = roleOf (field f i 1) (field f i 2); body = e; period = periodIn f i }
 
 abbrev pub found : Credential → D.Found
 found c = F.Credential c
@@ -79,7 +84,7 @@ foundIn f i = if (readable f i) (foundOf f i (bodyIn f i)) F.End
 
 -- what a credential's value means
 abbrev pub meantBy : Credential → M.Credential
-meantBy c = roleNumber (c .head) ⟵ meaningOf (c .body) during record { from = c .from; until = c .to }
+meantBy c = roleNumber (c .head) ⟵ meaningOf (c .body) during record { from = c .period .from; until = c .period .until }
 
 -- What is read at a position: a value that means the credential there, and that states the bytes of its statement.
 pub record Read (f : List ℕ) (i : ℕ) : Type 0 where

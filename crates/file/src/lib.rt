@@ -8,7 +8,7 @@ ghost use lib.Dec.{ltb};
 ghost use mathlib.Core.Option.{some};
 ghost use Rattle.file.specs.Format.{byte, two, four, E, R, N, roleOf, joinedOf, bodyOf, bodyIn};
 ghost use Rattle.file.specs.Reading.{between, headRows, inRange, zeros, credentialRows, credentialsRows};
-ghost use Rattle.file.specs.Values.{headIn, noSizes, firstRefusal, firstNumber, Headed, Stated, found, foundOf, foundIn, periodIn};
+ghost use Rattle.file.specs.Values.{usedBy, headIn, noSizes, firstRefusal, firstNumber, Headed, Stated, found, foundOf, foundIn, periodIn};
 
 // An entity's number; never a role name's.
 pub struct Entity(pub u8);
@@ -31,12 +31,11 @@ pub enum Body {
     Disjoint(Role, Role),
 }
 
-// A credential as the file has it.
+// A credential with its period, which may be empty.
 pub struct Credential {
     pub head: Role,
     pub body: Body,
-    pub from: u32,
-    pub to: u32,
+    pub period: Period,
 }
 
 // What stands at a position.
@@ -138,6 +137,40 @@ fn no_sizes(number: u32) -> Head
     }
 }
 
+// Which of s, c and t a kind uses. Every kind uses b.
+struct Used {
+    s: bool,
+    c: bool,
+    t: bool,
+}
+
+fn used_by(kind: u8) -> Used
+    ensures { λ r. ⌜ r ≡ usedBy kind ⌝ }
+{
+    match kind {
+        1 => Used {
+            s: true,
+            c: false,
+            t: false,
+        },
+        2 => Used {
+            s: true,
+            c: false,
+            t: true,
+        },
+        3..=5 => Used {
+            s: true,
+            c: true,
+            t: true,
+        },
+        _ => Used {
+            s: false,
+            c: false,
+            t: false,
+        },
+    }
+}
+
 fn below(file: &[u8], p: usize, limit: u32) -> bool
     requires { ⌜ p < length (now file) ⌝ }
     ensures { λ r. ⌜ r ≡ ltb (byte (now (file .entry)) p) limit ⌝ }
@@ -145,32 +178,32 @@ fn below(file: &[u8], p: usize, limit: u32) -> bool
     wide(file[p]) < limit
 }
 
-// The entities and names that the kind uses are below e and r: A, r and b always, s from kind 1 on, t from kind 2 on, c from kind 3 on.
+// The entities and names that the kind uses are below e and r: A, r and b always, s, c and t where it uses them.
 fn in_range(file: &[u8], i: usize, e: u32, r: u32) -> bool
     requires { ⌜ Stated (now file) i ⌝ ∗ ⌜ (e ≡ E (now file)) × (r ≡ R (now file)) ⌝ }
     ensures { λ ok. ⌜ ok ≡ inRange (now (file .entry)) i ⌝ }
 {
     let at = 6 + 8 * i;
-    let kind = file[at];
+    let u = used_by(file[at]);
     let entities = below(file, at + 1, e)
         & below(file, at + 3, e)
-        & ((kind < 3) | below(file, at + 5, e));
+        & (!u.c | below(file, at + 5, e));
     let names = below(file, at + 2, r)
-        & ((kind < 1) | below(file, at + 4, r))
-        & ((kind < 2) | below(file, at + 6, r));
+        & (!u.s | below(file, at + 4, r))
+        & (!u.t | below(file, at + 6, r));
     entities & names
 }
 
-// The bytes that the kind does not use are zero: s in kind 0, c up to kind 2, t up to kind 1, byte 7 always.
+// The bytes that the kind does not use are zero, and byte 7 always is.
 fn zeroed(file: &[u8], i: usize) -> bool
     requires { ⌜ Stated (now file) i ⌝ }
     ensures { λ ok. ⌜ ok ≡ zeros (now (file .entry)) i ⌝ }
 {
     let at = 6 + 8 * i;
-    let kind = file[at];
-    ((0 < kind) | (file[at + 4] == 0))
-        & ((2 < kind) | (file[at + 5] == 0))
-        & ((1 < kind) | (file[at + 6] == 0))
+    let u = used_by(file[at]);
+    (u.s | (file[at + 4] == 0))
+        & (u.c | (file[at + 5] == 0))
+        & (u.t | (file[at + 6] == 0))
         & (file[at + 7] == 0)
 }
 
@@ -298,8 +331,7 @@ fn value_at(file: &[u8], h: Head, i: usize) -> Credential
             file[at + 5],
             file[at + 6],
         ),
-        from: v.from,
-        to: v.until,
+        period: v,
     }
 }
 

@@ -18,7 +18,9 @@ use Rattle.store.specs.Entries.{keyOf, roleIn, setIn}
 use Rattle.store.proofs.Chains.{equal-or-not}
 use Rattle.store.proofs.Keys.{set-below}
 use Rattle.firing.specs.Firing.{Found, Combined, inclusion, linking, linked, intersection, union, disjoint}
-use Rattle.firing.specs.Steps.{familyOf, kindOf, otherOf, One, WithOne, Paired, WithSome, ByBody, Premise}
+use Rattle.heads.specs.Heads.{One}
+use Rattle.pairs.specs.Pairs.{Paired}
+use Rattle.firing.specs.Steps.{familyOf, kindOf, otherOf, WithOne, WithSome, ByBody, Premise}
 
 -- ---- sets of one
 

@@ -2,22 +2,31 @@
 use mathlib.Core.Path.{_≡_, refl, sym, ap, _∙_, subst}
 use mathlib.Core.Logic.{_⊎_, inl, inr}
 use mathlib.Core.List.{List}
-use Prim.Native.Nat.{ℕ, _+_, _%_, _≤_, _<_, zero-le}
+use Prim.Native.Nat.{ℕ, _+_, _-_, _%_, _≤_, _<_, zero-le}
 use native.Mathlib.Omega.{arith}
 use lib.Bits.{bitAnd}
 use lib.ListN.{getD}
-use Rattle.store.specs.Entries.{keyOf, roleIn, Has, Grown}
-use Rattle.rules.specs.Uses.{useOf, bodyCode, headCode, familyIn, bodyIn}
+use Rattle.store.specs.Entries.{keyOf, roleIn, latest, Has, Grown}
+use Rattle.rules.specs.Uses.{Listed, useOf, bodyCode, headCode, familyIn, bodyIn}
 use Rattle.rules.proofs.CodeLaws.{kindIn, otherIn, headIn, family-in-code, kind-in-code, other-in-code, body-in-code, head-in-code, body-code-of, head-code-of}
+use Rattle.heads.specs.Gaining.{Gains}
+use Rattle.heads.specs.Walks.{On, From}
+use Rattle.heads.specs.Heads.{Covering, headOf}
+use Rattle.heads.proofs.Gaining.{below-or-not, gains-same}
+use Rattle.heads.proofs.Heads.{bit-both, bit-left, no-bit, headed-more}
 use Rattle.firing.specs.Firing.{Found, Combined, Fires}
-use Rattle.firing.specs.Steps.{Gains, From, Covering, headOf, familyOf, kindOf, otherOf, FromBody}
-use Rattle.firing.proofs.Gaining.{below-or-not, gains-same}
-use Rattle.firing.proofs.Heads.{bit-both, bit-left, no-bit, headed-more}
+use Rattle.firing.specs.Steps.{familyOf, kindOf, otherOf, FromBody}
 use Rattle.firing.proofs.Combining.{combined-more}
 
 pub family-low : (family e : ℕ) → roleIn e < 1024 → (family ≡ roleIn e) ⊎ (family ≡ 1024 + roleIn e % 32) → family < 1056
 family-low family e l (inl q) = omega arith
 family-low family e l (inr q) = omega arith
+
+-- the body before, in the list of a family
+pub families-next : {codes valid lists : List ℕ} {b h : ℕ} → Listed codes valid lists b h → (f c d : ℕ) → (c ≡ 0 → ⊥) → On (familyOf codes) f b c → d ≡ getD lists (c - 1) 0 → d ≡ latest (familyOf codes) f (c - 1)
+families-next {codes} l f c d nz on e =
+    let o = on nz in
+    e ∙ l .byFamily .prevs (c - 1) (o .0) ∙ ap (λ (x : ℕ). latest (familyOf codes) x (c - 1)) (o .1)
 
 -- ---- only spans in which the body is valid count
 

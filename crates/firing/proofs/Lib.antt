@@ -1,6 +1,4 @@
-pub mod Gaining
-pub mod Walks
-pub mod Heads
+pub mod Gained
 pub mod Premises
 pub mod Combining
 pub mod Firings

@@ -10,10 +10,7 @@ use Rattle.meaning.specs.Sequence.{Relation}
 use Rattle.meaning.specs.Table.{bit}
 use Rattle.store.specs.Entries.{keyOf, roleIn, setIn, Has, Stored, Grown}
 use Rattle.rules.specs.Uses.{Use, Uses, Fitting, familyIn}
-
--- keys with their spans
-abbrev pub Spanned : Type 1
-Spanned = ℕ → ℕ → Type 0
+use Rattle.heads.specs.Gaining.{Spanned, Over}
 
 -- no entry is without spans, and the done spans of places from n on are none
 pub record Held (keys spans slots links done : List ℕ) (n : ℕ) : Type 0 where
@@ -21,12 +18,6 @@ pub record Held (keys spans slots links done : List ℕ) (n : ℕ) : Type 0 wher
   pub room : length spans ≡ 1024
   pub some : (i : ℕ) → i < n → getD spans i 0 ≡ 0 → ⊥
   pub fresh : (i : ℕ) → n ≤ i → getD done i 0 ≡ 0
-
--- more distinct keys than the limit, all of one kind
-pub record Over (limit : ℕ) (P : ℕ → Type 0) : Type 0 where
-  pub keys : ℕ → ℕ
-  pub distinct : (i j : ℕ) → i ≤ limit → j ≤ limit → keys i ≡ keys j → i ≡ j
-  pub each : (i : ℕ) → i ≤ limit → P (keys i)
 
 -- Exactly the keys and spans in New were added, and nothing was lost; or, for an answer above the limit, there are too many keys.
 pub record Gained (limit : ℕ) (keys spans : List ℕ) (n : ℕ) (New : Spanned) (keys′ spans′ slots′ links′ done : List ℕ) (r : ℕ) : Type 0 where

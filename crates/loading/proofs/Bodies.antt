@@ -23,8 +23,8 @@ use Rattle.file.proofs.Body as B
 use Rattle.file.proofs.Accepted.{accepted-found}
 use Rattle.store.specs.Entries.{keyOf, Added}
 use Rattle.rules.specs.Uses.{Use, useOf, UsedBy, UseAdded}
-use Rattle.firing.specs.Steps.{Kept, Gains}
-use Rattle.firing.proofs.Gaining.{gains-none, gains-one, gains-same}
+use Rattle.heads.specs.Gaining.{Kept, Gains}
+use Rattle.heads.proofs.Gaining.{gains-none, gains-one, gains-same}
 use Rattle.loading.specs.Loading.{Masked}
 use Rattle.loading.specs.Steps.{States, Proper, Usable, Room, UsesAdded, Either, BodyUses, BodySets, CredentialLoaded}
 use Rattle.loading.proofs.Adding.{one-use, no-use, uses-same}
@@ -109,7 +109,7 @@ module _ (limit Ar v : ℕ) {keys spans slots links : List ℕ} {n : ℕ} (kept 
 
 -- ---- the credential
 
-pub credential-loaded : {es : List ℕ} {m : ℕ} (x : Credential) (head v : ℕ) {limit : ℕ} {keys spans codes valid : List ℕ} {b h n : ℕ} {keys′ spans′ slots′ links′ codes′ valid′ lists′ : List ℕ} {b′ h′ n′ : ℕ} → head ≡ roleNumber (x .head) → Masked es m (x .from) (x .to) v → Gains limit keys spans n (BodySets (meaningOf (x .body)) head v) keys′ spans′ slots′ links′ n′ → UsesAdded (BodyUses (meaningOf (x .body)) head v) codes valid b h codes′ valid′ lists′ b′ h′ → CredentialLoaded es m (meantBy x) limit keys spans codes valid b h n keys′ spans′ slots′ links′ codes′ valid′ lists′ b′ h′ n′
+pub credential-loaded : {es : List ℕ} {m : ℕ} (x : Credential) (head v : ℕ) {limit : ℕ} {keys spans codes valid : List ℕ} {b h n : ℕ} {keys′ spans′ slots′ links′ codes′ valid′ lists′ : List ℕ} {b′ h′ n′ : ℕ} → head ≡ roleNumber (x .head) → Masked es m (x .period .from) (x .period .until) v → Gains limit keys spans n (BodySets (meaningOf (x .body)) head v) keys′ spans′ slots′ links′ n′ → UsesAdded (BodyUses (meaningOf (x .body)) head v) codes valid b h codes′ valid′ lists′ b′ h′ → CredentialLoaded es m (meantBy x) limit keys spans codes valid b h n keys′ spans′ slots′ links′ codes′ valid′ lists′ b′ h′ n′
 credential-loaded {es} {m} x head v {limit} {keys} {spans} {codes} {valid} {b} {h} {n} {keys′} {spans′} {slots′} {links′} {codes′} {valid′} {lists′} {b′} {h′} {n′} e k g u =
     record {
       sets = gains-same (λ k₁ s z. (z .0, k s .0 (z .1))) (λ k₁ s z. (z .0, k s .1 (z .1)))

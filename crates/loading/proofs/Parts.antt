@@ -17,8 +17,8 @@ use Rattle.store.specs.Entries.{Has}
 use Rattle.store.proofs.Chains.{last-or-below}
 use Rattle.store.proofs.Stores.{empty-stored, has-none}
 use Rattle.rules.proofs.UseLaws.{listed-none, uses-none}
-use Rattle.firing.specs.Firing.{Over}
-use Rattle.firing.proofs.Gaining.{over-more}
+use Rattle.heads.specs.Gaining.{Over}
+use Rattle.heads.proofs.Gaining.{over-more}
 use Rattle.loading.specs.Loading.{Blank}
 use Rattle.loading.specs.Steps.{SetOf, UseOf, Ready, CredentialLoaded, Before, Part}
 

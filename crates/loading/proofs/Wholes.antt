@@ -21,8 +21,9 @@ use Rattle.file.proofs.Accepted.{accepted-fits}
 use Rattle.store.specs.Entries.{keyOf, roleIn, setIn}
 use Rattle.store.proofs.Keys.{role-of-key, set-of-key}
 use Rattle.rules.specs.Uses.{Use, UsedBy, Fitting}
-use Rattle.firing.specs.Firing.{Over, Found}
-use Rattle.firing.proofs.Gaining.{over-more}
+use Rattle.heads.specs.Gaining.{Over}
+use Rattle.heads.proofs.Gaining.{over-more}
+use Rattle.firing.specs.Firing.{Found}
 use Rattle.closing.specs.Closing.{Policy, Given, Closed}
 use Rattle.loading.specs.Loading.{bySpan, Loadable, LoadedFrom}
 use Rattle.loading.specs.Steps.{During, States, SetOf, Before, Part}

@@ -10,8 +10,8 @@ use Rattle.meaning.specs.Table.{bit}
 use Rattle.file.specs.Format.{credentialIn}
 use Rattle.store.specs.Entries.{keyOf, Has}
 use Rattle.rules.specs.Uses.{Use, UsedBy, Uses, Listed, Fitting}
-use Rattle.firing.specs.Firing.{Spanned, Formed}
-use Rattle.firing.specs.Steps.{Kept, Gains}
+use Rattle.heads.specs.Gaining.{Spanned, Kept, Gains}
+use Rattle.firing.specs.Firing.{Formed}
 
 -- one span, where the period covers its first minute e
 abbrev pub Bit : ℕ → ℕ → ℕ → ℕ → ℕ → Type 0

@@ -6,7 +6,7 @@ ghost use Rattle.file.specs.Conditions.{Accepted};
 ghost use Rattle.file.specs.Format.{N, roleNumber, meaningOf, credentialIn};
 ghost use Rattle.file.specs.Values.{meantBy};
 ghost use Rattle.rules.specs.Uses.{useOf};
-ghost use Rattle.firing.specs.Steps.{Kept, Gains};
+ghost use Rattle.heads.specs.Gaining.{Kept, Gains};
 ghost use Rattle.loading.specs.Loading.{Masked, Loadable, Blank, LoadedFrom};
 ghost use Rattle.loading.specs.Steps.{Bit, Proper, Usable, Room, UsesAdded, Either, BodyUses, BodySets, Ready, CredentialLoaded};
 use file::Body;
@@ -205,7 +205,7 @@ fn load_credential(
 {
     let body = x.body;
     let head = role_number(x.head);
-    let v = span_mask(ends, count, x.from, x.to);
+    let v = span_mask(ends, count, x.period.from, x.period.until);
     let uses = load_uses(codes, valid, lists, a.uses, body, head, v);
     let entries = load_set(keys, spans, slots, links, a.entries, limit, body, head, v);
     Amounts { entries, uses }

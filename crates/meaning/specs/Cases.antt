@@ -200,6 +200,8 @@ cases =
     ∷ empty (in10 (0 · 0) (role (1 · 0)) ∷ in10 (1 · 0) (role (0 · 0)) ∷ [])  -- K7
     ∷ times (in10 (0 · 0) (role (1 · 0)) ∷ 1 · 0 ⟵ set 4 during 0 upTo 5 ∷ 1 · 0 ⟵ set 4 during 5 upTo 10 ∷ []) (0 · 0) 4 (0 upTo 10 ∷ [])  -- K8
     ∷ emptyIn pairLinked (0 · 0)  -- K9
+    ∷ sizeIn pairLinked (1 · 0) 1  -- K9: 1.0 has one set
+    ∷ proof pairLinked 5 (1 · 0) 6 2 (step 1 0 0 2 ∷ step 2 0 0 4 ∷ step 3 0 1 6 ∷ [])  -- K9: which is {1,2}
     ∷ size example1 24  -- K10
     ∷ sizeIn example1 (0 · 1) 12  -- K10
     ∷ empty []  -- K11

@@ -1,4 +1,7 @@
 pub mod CodeLaws
 pub mod Linking
+pub mod Searching
+pub mod Bodies
+pub mod Heads
 pub mod Placing
 pub mod UseLaws

@@ -11,7 +11,7 @@ use lib.ListN.{length, getD, set, length-set}
 use lib.Seq.{getD-set-same, getD-set-other}
 use Rattle.meaning.specs.Table.{bit}
 use Rattle.meaning.proofs.Bits.{bit-below-two, bit-or, bit-of-zero, bit-ext}
-use Rattle.store.specs.Entries.{roleIn, Has, Chained, Stored, pushed, At, Added}
+use Rattle.store.specs.Entries.{roleIn, Has, Chained, Stored, pushed, At, Added, Entered, made}
 use Rattle.store.proofs.Chains.{last-or-below, equal-or-not, linked-push}
 use Rattle.store.proofs.Searches.{searchable-append}
 use Rattle.store.proofs.Stores.{grown-refl}
@@ -110,7 +110,7 @@ module _ (limit key m : ℕ) (keys spans slots links : List ℕ) (n : ℕ) (st :
       }
 
 -- a new entry
-module _ (limit key m : ℕ) (keys spans slots links : List ℕ) (n p : ℕ) (st : Stored keys slots links n) (len : length spans ≡ 1024) (h : n < limit) (few : limit ≤ 1024) (low : roleIn key < 1024) (a : At keys slots n key p) (z : getD slots p 0 ≡ 0) where
+module _ (limit key : ℕ) (keys slots links : List ℕ) (n p : ℕ) (st : Stored keys slots links n) (h : n < limit) (few : limit ≤ 1024) (low : roleIn key < 1024) (a : At keys slots n key p) (z : getD slots p 0 ≡ 0) where
   klen : n < length keys
   klen = let e = st .room .0 in omega arith
 
@@ -122,12 +122,6 @@ module _ (limit key m : ℕ) (keys spans slots links : List ℕ) (n p : ℕ) (st
 
   key-before : (i : ℕ) → i < n → getD (set keys n key) i 0 ≡ getD keys i 0
   key-before i l = getD-set-other keys n i key 0 (λ e. omega arith)
-
-  span-at : getD (set spans n m) n 0 ≡ m
-  span-at = getD-set-same spans n m 0 (omega arith)
-
-  span-before : (i : ℕ) → i < n → getD (set spans n m) i 0 ≡ getD spans i 0
-  span-before i l = getD-set-other spans n i m 0 (λ e. omega arith)
 
   roles-below : (i : ℕ) → i < n + 1 → roleIn (getD (set keys n key) i 0) < 1024
   roles-below i l = go (last-or-below (omega arith))
@@ -147,32 +141,43 @@ module _ (limit key m : ℕ) (keys spans slots links : List ℕ) (n p : ℕ) (st
         chained = subst⁻¹ (λ (k : ℕ). Chained (λ i. roleIn (getD (set keys n key) i 0)) 1024 k (λ r. getD (pushed links n (roleIn key)) (1024 + r) 0) (λ i. getD (pushed links n (roleIn key)) i 0)) (add-one n) (linked-push links n (roleIn key) len (omega arith) low (λ i. roleIn (getD (set keys n key) i 0)) (st .chained) (λ i l. ap roleIn (key-before i l)) (ap roleIn key-at));
       }
 
-  pub added-new : (m ≡ 0 → ⊥) → Added limit key m keys spans n (set keys n key) (set spans n m) (set slots p (n + 1)) (pushed links n (roleIn key)) (n + 1)
-  added-new nz =
-      record {
-        stored = λ _. stored-new;
-        grown = λ _. record { more = omega arith; same = key-before; kept = λ i s l b. rw (span-before i l) b };
-        exact = λ _ k s. (λ w. there k s w, λ w. back k s w);
-        some = λ _ i l e. none i e (last-or-below (omega arith));
-        over = λ l. absurd (omega arith);
-        room = length-set spans n m;
-      }
-    where
-      none : (i : ℕ) → getD (set spans n m) i 0 ≡ 0 → (i ≡ n) ⊎ (i < n) → (i < n) × (getD spans i 0 ≡ 0)
-      none i e (inl f) = absurd (nz (sym span-at ∙ ap (λ (x : ℕ). getD (set spans n m) x 0) (sym f) ∙ e))
-      none i e (inr l) = (l, sym (span-before i l) ∙ e)
+  pub entered-by : (keys′ slots′ links′ : List ℕ) → keys′ ≡ set keys n key → slots′ ≡ set slots p (n + 1) → links′ ≡ pushed links n (roleIn key) → Entered limit key keys n keys′ slots′ links′ (n + 1)
+  entered-by keys′ slots′ links′ e f g = made h (a .absent z) e (rw (e, f, g) stored-new) refl
 
-      there : (k s : ℕ) → Has (set keys n key) (set spans n m) (n + 1) k s → Has keys spans n k s ⊎ ((k ≡ key) × (bit m s ≡ 1))
-      there k s (i, l, f, b) = go (last-or-below (omega arith))
-        where
-          go : (i ≡ n) ⊎ (i < n) → Has keys spans n k s ⊎ ((k ≡ key) × (bit m s ≡ 1))
-          go (inl q) = inr (sym f ∙ ap (λ (x : ℕ). getD (set keys n key) x 0) q ∙ key-at, sym (ap (λ (x : ℕ). bit x s) (ap (λ (x : ℕ). getD (set spans n m) x 0) q ∙ span-at)) ∙ b)
-          go (inr o) = inl (i, o, sym (key-before i o) ∙ f, sym (ap (λ (x : ℕ). bit x s) (span-before i o)) ∙ b)
+  -- with its spans
+  module _ (m : ℕ) (spans : List ℕ) (len : length spans ≡ 1024) where
+    span-at : getD (set spans n m) n 0 ≡ m
+    span-at = getD-set-same spans n m 0 (omega arith)
 
-      back : (k s : ℕ) → Has keys spans n k s ⊎ ((k ≡ key) × (bit m s ≡ 1)) → Has (set keys n key) (set spans n m) (n + 1) k s
-      back k s (inl (i, l, f, b)) = (i, omega arith, key-before i l ∙ f, rw (span-before i l) b)
-      back k s (inr (f, b)) = (n, omega arith, key-at ∙ sym f, rw span-at b)
+    span-before : (i : ℕ) → i < n → getD (set spans n m) i 0 ≡ getD spans i 0
+    span-before i l = getD-set-other spans n i m 0 (λ e. omega arith)
 
-  -- the same of lists that are said to be those
-  pub added-by : (keys′ spans′ slots′ links′ : List ℕ) → (m ≡ 0 → ⊥) → keys′ ≡ set keys n key → spans′ ≡ set spans n m → slots′ ≡ set slots p (n + 1) → links′ ≡ pushed links n (roleIn key) → Added limit key m keys spans n keys′ spans′ slots′ links′ (n + 1)
-  added-by keys′ spans′ slots′ links′ nz e f g h = rw (e, f, g, h) (added-new nz)
+    pub added-new : (m ≡ 0 → ⊥) → Added limit key m keys spans n (set keys n key) (set spans n m) (set slots p (n + 1)) (pushed links n (roleIn key)) (n + 1)
+    added-new nz =
+        record {
+          stored = λ _. stored-new;
+          grown = λ _. record { more = omega arith; same = key-before; kept = λ i s l b. rw (span-before i l) b };
+          exact = λ _ k s. (λ w. there k s w, λ w. back k s w);
+          some = λ _ i l e. none i e (last-or-below (omega arith));
+          over = λ l. absurd (omega arith);
+          room = length-set spans n m;
+        }
+      where
+        none : (i : ℕ) → getD (set spans n m) i 0 ≡ 0 → (i ≡ n) ⊎ (i < n) → (i < n) × (getD spans i 0 ≡ 0)
+        none i e (inl f) = absurd (nz (sym span-at ∙ ap (λ (x : ℕ). getD (set spans n m) x 0) (sym f) ∙ e))
+        none i e (inr l) = (l, sym (span-before i l) ∙ e)
+
+        there : (k s : ℕ) → Has (set keys n key) (set spans n m) (n + 1) k s → Has keys spans n k s ⊎ ((k ≡ key) × (bit m s ≡ 1))
+        there k s (i, l, f, b) = go (last-or-below (omega arith))
+          where
+            go : (i ≡ n) ⊎ (i < n) → Has keys spans n k s ⊎ ((k ≡ key) × (bit m s ≡ 1))
+            go (inl q) = inr (sym f ∙ ap (λ (x : ℕ). getD (set keys n key) x 0) q ∙ key-at, sym (ap (λ (x : ℕ). bit x s) (ap (λ (x : ℕ). getD (set spans n m) x 0) q ∙ span-at)) ∙ b)
+            go (inr o) = inl (i, o, sym (key-before i o) ∙ f, sym (ap (λ (x : ℕ). bit x s) (span-before i o)) ∙ b)
+
+        back : (k s : ℕ) → Has keys spans n k s ⊎ ((k ≡ key) × (bit m s ≡ 1)) → Has (set keys n key) (set spans n m) (n + 1) k s
+        back k s (inl (i, l, f, b)) = (i, omega arith, key-before i l ∙ f, rw (span-before i l) b)
+        back k s (inr (f, b)) = (n, omega arith, key-at ∙ sym f, rw span-at b)
+
+    -- the same of lists that are said to be those
+    pub added-by : (keys′ spans′ slots′ links′ : List ℕ) → (m ≡ 0 → ⊥) → keys′ ≡ set keys n key → spans′ ≡ set spans n m → slots′ ≡ set slots p (n + 1) → links′ ≡ pushed links n (roleIn key) → Added limit key m keys spans n keys′ spans′ slots′ links′ (n + 1)
+    added-by keys′ spans′ slots′ links′ nz e f g h = rw (e, f, g, h) (added-new nz)

@@ -87,3 +87,9 @@ pub record Added (limit key m : ℕ) (keys spans : List ℕ) (n : ℕ) (keys′ 
   pub some : r ≤ limit → (i : ℕ) → i < r → getD spans′ i 0 ≡ 0 → (i < n) × (getD spans i 0 ≡ 0)
   pub over : limit < r → (n ≡ limit) × (m ≡ 0 → ⊥) × ((i : ℕ) → i < n → getD keys i 0 ≡ key → ⊥)
   pub room : length spans′ ≡ length spans
+
+-- An entry has the key already; or one was made; or there was no room for it, and the answer is above the limit.
+pub data Entered (limit key : ℕ) (keys : List ℕ) (n : ℕ) (keys′ slots′ links′ : List ℕ) (r : ℕ) : Type 0 where
+  there : (i : ℕ) → i < n → getD keys i 0 ≡ key → keys′ ≡ keys → Stored keys′ slots′ links′ n → r ≡ n → Entered limit key keys n keys′ slots′ links′ r
+  made : n < limit → ((i : ℕ) → i < n → getD keys i 0 ≡ key → ⊥) → keys′ ≡ set keys n key → Stored keys′ slots′ links′ (n + 1) → r ≡ n + 1 → Entered limit key keys n keys′ slots′ links′ r
+  full : n ≡ limit → ((i : ℕ) → i < n → getD keys i 0 ≡ key → ⊥) → r ≡ limit + 1 → Entered limit key keys n keys′ slots′ links′ r

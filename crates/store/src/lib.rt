@@ -2,7 +2,7 @@
 ghost use mathlib.Core.Path.{_≡_};
 ghost use Prim.Native.Nat.{_+_, _<_, _≤_};
 ghost use lib.ListN.{length, set};
-ghost use Rattle.store.specs.Entries.{roleIn, mixed, pushed, Searchable, Stored, At, Added};
+ghost use Rattle.store.specs.Entries.{roleIn, mixed, pushed, Searchable, Stored, At, Added, Entered};
 
 // The bits by which a key is looked for.
 fn mix(key: u64) -> u64
@@ -34,22 +34,12 @@ pub fn find(keys: &[u64], slots: &[u16], n: usize, key: u64) -> usize
 }
 
 // Makes entry n, at the end of its role's list and with slot p.
-fn append(
-    keys: &mut [u64],
-    spans: &mut [u64],
-    slots: &mut [u16],
-    links: &mut [u16],
-    n: usize,
-    p: usize,
-    key: u64,
-    m: u64,
-)
-    requires { ⌜ (length (now keys) ≡ 1024) × (length (now spans) ≡ 1024) × (length (now slots) ≡ 3072) × (length (now links) ≡ 2048) ⌝ ∗ ⌜ (n < 1024) × (p < 3072) × (roleIn key < 1024) ⌝ }
-    ensures { λ _. ⌜ now (keys .exit) ≡ set (now (keys .entry)) n key ⌝ ∗ ⌜ now (spans .exit) ≡ set (now (spans .entry)) n m ⌝ ∗ ⌜ now (slots .exit) ≡ set (now (slots .entry)) p (n + 1) ⌝ ∗ ⌜ now (links .exit) ≡ pushed (now (links .entry)) n (roleIn key) ⌝ }
+fn append(keys: &mut [u64], slots: &mut [u16], links: &mut [u16], n: usize, p: usize, key: u64)
+    requires { ⌜ (length (now keys) ≡ 1024) × (length (now slots) ≡ 3072) × (length (now links) ≡ 2048) ⌝ ∗ ⌜ (n < 1024) × (p < 3072) × (roleIn key < 1024) ⌝ }
+    ensures { λ _. ⌜ now (keys .exit) ≡ set (now (keys .entry)) n key ⌝ ∗ ⌜ now (slots .exit) ≡ set (now (slots .entry)) p (n + 1) ⌝ ∗ ⌜ now (links .exit) ≡ pushed (now (links .entry)) n (roleIn key) ⌝ }
 {
     let r = 1024 + (key / 4294967296) as usize;
     keys[n] = key;
-    spans[n] = m;
     slots[p] = (n + 1) as u16;
     links[n] = links[r];
     links[r] = (n + 1) as u16;
@@ -81,6 +71,30 @@ pub fn add(
     if limit <= n {
         return limit + 1;
     }
-    append(keys, spans, slots, links, n, p, key, m);
+    append(keys, slots, links, n, p, key);
+    spans[n] = m;
     n + 1
+}
+
+// Makes an entry of a key that has none. Past the limit it is not made, and the answer is above the limit.
+pub fn enter(
+    keys: &mut [u64],
+    slots: &mut [u16],
+    links: &mut [u16],
+    n: usize,
+    limit: usize,
+    key: u64,
+) -> usize
+    requires { ⌜ Stored (now keys) (now slots) (now links) n ⌝ ∗ ⌜ (n ≤ limit) × (limit ≤ 1024) × (roleIn key < 1024) ⌝ }
+    ensures { λ r. ⌜ Entered limit key (now (keys .entry)) n (now (keys .exit)) (now (slots .exit)) (now (links .exit)) r ⌝ }
+{
+    let p = find(keys, slots, n, key);
+    if slots[p] != 0 {
+        return n;
+    }
+    if n < limit {
+        append(keys, slots, links, n, p, key);
+        return n + 1;
+    }
+    limit + 1
 }

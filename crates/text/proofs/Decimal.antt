@@ -8,7 +8,7 @@ use lib.ListN.{length, length-append}
 use Rattle.text.specs.Lines.{digits, decimal}
 
 -- the digits of q and then d, or d alone for 0: `digits (suc n) x` is `ended n (48 + x % 10) (x / 10)`
-abbrev ended : ℕ → ℕ → ℕ → List ℕ
+abbrev pub ended : ℕ → ℕ → ℕ → List ℕ
 ended n d q = elim q [ zero ↦ d ∷ [] | suc q ↦ digits n (suc q) ++ d ∷ [] ]
 
 ended-none : (n d q : ℕ) → q ≡ 0 → ended n d q ≡ d ∷ []

@@ -1,2 +1,5 @@
 pub mod Decimal
-pub mod Stores
+pub mod Putting
+mod Numbers
+mod Reading
+pub mod Claims

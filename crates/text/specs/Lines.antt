@@ -13,11 +13,15 @@ digits (suc n) x = elim (x / 10) [ zero ↦ (48 + x % 10) ∷ [] | suc q ↦ dig
 unfoldable pub decimal : ℕ → List ℕ
 decimal x = digits 10 x
 
+-- a number and the byte after it
+abbrev pub field : ℕ → ℕ → List ℕ
+field x end = decimal x ++ end ∷ []
+
 -- numbers with single spaces between them, and a newline
 abbrev pub line : List ℕ → List ℕ
 line [] = 10 ∷ []
-line (x ∷ []) = decimal x ++ 10 ∷ []
-line (x ∷ y ∷ xs) = decimal x ++ (32 ∷ line (y ∷ xs))
+line (x ∷ []) = field x 10
+line (x ∷ y ∷ xs) = field x 32 ++ line (y ∷ xs)
 
 -- `refused`, number, place
 abbrev pub refusedLine : ℕ → ℕ → List ℕ
@@ -27,8 +31,13 @@ refusedLine number place = 114 ∷ 101 ∷ 102 ∷ 117 ∷ 115 ∷ 101 ∷ 100 �
 abbrev pub intervalLine : ℕ → ℕ → ℕ → ℕ → List ℕ
 intervalLine role set from to = line (role / 32 ∷ role % 32 ∷ set ∷ from ∷ to ∷ [])
 
--- the first r of 64 bytes are a line
+-- The bytes, at most so many, stand between the places `at` and r of a buffer; what stood before `at` still does.
+pub record Put (before after : List ℕ) (at r most : ℕ) (bytes : List ℕ) : Type 0 where
+  pub within : r ≤ at + most
+  pub text : take r after ≡ take at before ++ bytes
+
+-- the first r of 128 bytes are a line
 pub record Lined (out : List ℕ) (r : ℕ) (bytes : List ℕ) : Type 0 where
-  pub room : length out ≡ 64
-  pub fits : r ≤ 64
+  pub room : length out ≡ 128
+  pub fits : r ≤ 128
   pub line : take r out ≡ bytes

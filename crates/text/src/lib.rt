@@ -1,11 +1,18 @@
-// Lines of text in a buffer of 64 bytes. Each function returns how many bytes its line has.
+// Lines of text in a buffer of 128 bytes, and numbers in decimal. A function that writes a line returns how many bytes it has.
 ghost use mathlib.Core.Path.{_≡_};
 ghost use mathlib.Core.List.{[], _∷_, _++_};
 ghost use Prim.Native.Nat.{_+_, _%_, _≤_, _<_};
 ghost use lib.ListN.{length, take};
-ghost use Rattle.text.specs.Lines.{Lined, decimal, line, refusedLine, intervalLine};
+ghost use Rattle.text.specs.Lines.{Put, Lined, decimal, field, line, refusedLine, intervalLine};
+ghost use Rattle.text.specs.Numbers.{digit, numberIn};
 
-// Each private function writes at `at` and returns the next place. What stands before `at` stays.
+// The number that bytes say in decimal, if they do.
+pub enum Parsed {
+    Number(u32),
+    Nothing,
+}
+
+// Each function that puts something writes it at `at` and returns the next place. What stands before `at` stays.
 
 fn put_byte(out: &mut [u8], at: usize, b: u8) -> usize
     requires { ⌜ at < length (now out) ⌝ }
@@ -13,6 +20,18 @@ fn put_byte(out: &mut [u8], at: usize, b: u8) -> usize
 {
     out[at] = b;
     at + 1
+}
+
+pub fn put_bytes(out: &mut [u8], at: usize, bytes: &[u8]) -> usize
+    requires { ⌜ at + length (now bytes) ≤ length (now out) ⌝ }
+    ensures { λ r. ⌜ Put (now (out .entry)) (now (out .exit)) at r (length (now (bytes .entry))) (now (bytes .entry)) ⌝ }
+{
+    let mut i = 0;
+    while i < bytes.len() {
+        out[at + i] = bytes[i];
+        i += 1;
+    }
+    at + i
 }
 
 // The last digit of x.
@@ -34,40 +53,49 @@ fn put_number(out: &mut [u8], at: usize, x: u32) -> usize
     put_digit(out, last, x)
 }
 
-// A number and the byte after it.
-fn put_field(out: &mut [u8], at: usize, x: u32, end: u8) -> usize
-    requires { ⌜ at + 11 ≤ length (now out) ⌝ }
-    ensures { λ r. ⌜ (r ≤ at + 11) × (take r (now (out .exit)) ≡ take at (now (out .entry)) ++ (decimal x ++ end ∷ [])) ⌝ }
+// A number, of at most ten digits.
+pub fn put_decimal(out: &mut [u8], at: usize, x: u32) -> usize
+    requires { ⌜ at + 10 ≤ length (now out) ⌝ }
+    ensures { λ r. ⌜ Put (now (out .entry)) (now (out .exit)) at r 10 (decimal x) ⌝ }
 {
-    let next = put_number(out, at, x);
+    put_number(out, at, x)
+}
+
+// A number and the byte after it.
+pub fn put_field(out: &mut [u8], at: usize, x: u32, end: u8) -> usize
+    requires { ⌜ at + 11 ≤ length (now out) ⌝ }
+    ensures { λ r. ⌜ Put (now (out .entry)) (now (out .exit)) at r 11 (field x end) ⌝ }
+{
+    let next = put_decimal(out, at, x);
     put_byte(out, next, end)
 }
 
 // One number.
-pub fn number_line(out: &mut [u8; 64], x: u32) -> usize
+pub fn number_line(out: &mut [u8; 128], x: u32) -> usize
     ensures { λ r. ⌜ Lined (now (out .exit)) r (line (x ∷ [])) ⌝ }
 {
     put_field(out, 0, x, b'\n')
 }
 
+// Two numbers.
+pub fn pair_line(out: &mut [u8; 128], x: u32, y: u32) -> usize
+    ensures { λ r. ⌜ Lined (now (out .exit)) r (line (x ∷ y ∷ [])) ⌝ }
+{
+    let next = put_field(out, 0, x, b' ');
+    put_field(out, next, y, b'\n')
+}
+
 // `refused`, number, place.
-pub fn refused_line(out: &mut [u8; 64], number: u32, place: u32) -> usize
+pub fn refused_line(out: &mut [u8; 128], number: u32, place: u32) -> usize
     ensures { λ r. ⌜ Lined (now (out .exit)) r (refusedLine number place) ⌝ }
 {
-    out[0] = b'r';
-    out[1] = b'e';
-    out[2] = b'f';
-    out[3] = b'u';
-    out[4] = b's';
-    out[5] = b'e';
-    out[6] = b'd';
-    out[7] = b' ';
-    let next = put_field(out, 8, number, b' ');
-    put_field(out, next, place, b'\n')
+    let number_at = put_bytes(out, 0, b"refused ");
+    let place_at = put_field(out, number_at, number, b' ');
+    put_field(out, place_at, place, b'\n')
 }
 
 // Issuer, name, set, from, to.
-pub fn interval_line(out: &mut [u8; 64], role: u32, set: u32, from: u32, to: u32) -> usize
+pub fn interval_line(out: &mut [u8; 128], role: u32, set: u32, from: u32, to: u32) -> usize
     ensures { λ r. ⌜ Lined (now (out .exit)) r (intervalLine role set from to) ⌝ }
 {
     let name_at = put_field(out, 0, role / 32, b' ');
@@ -75,4 +103,33 @@ pub fn interval_line(out: &mut [u8; 64], role: u32, set: u32, from: u32, to: u32
     let from_at = put_field(out, set_at, set, b' ');
     let to_at = put_field(out, from_at, from, b' ');
     put_field(out, to_at, to, b'\n')
+}
+
+fn is_digit(b: u8) -> bool
+    ensures { λ r. ⌜ r ≡ digit b ⌝ }
+{
+    (b'0' <= b) & (b <= b'9')
+}
+
+// The number of up to 32 bits that bytes say in decimal. Leading zeros are allowed.
+pub fn parse(bytes: &[u8]) -> Parsed
+    ensures { λ r. ⌜ r ≡ numberIn (now (bytes .entry)) ⌝ }
+{
+    if bytes.len() == 0 {
+        return Parsed::Nothing;
+    }
+    let mut x: u64 = 0;
+    let mut i = 0;
+    while i < bytes.len() {
+        let b = bytes[i];
+        if !is_digit(b) {
+            return Parsed::Nothing;
+        }
+        x = 10 * x + (b - b'0') as u64;
+        if 4294967295 < x {
+            return Parsed::Nothing;
+        }
+        i += 1;
+    }
+    Parsed::Number(x as u32)
 }

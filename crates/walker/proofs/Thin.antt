@@ -24,7 +24,8 @@ use denote.Laws.{Is, Ises, Are, Spells, Tellss, valss}
 use denote.Plain.{uint-makes}
 use denote.Builtin.{u8, u32, usize}
 use denote.Ref.{RefT}
-use denote.Signature.{namedLft, typeAt, typesAt}
+use denote.Exit.{yes}
+use denote.Signature.{Slot, namedLft, plain, typeAt, typesAt}
 use denote.Slice.{sliceVal, ShrSlice, shr-slice-copy}
 use denote.Steps.{owned, heard, nothing}
 use denote.Struct.Declared.{Declared}
@@ -36,7 +37,7 @@ use denote.Triple.Call.{calls-from}
 use denote.Triple.Entry.{Args, Res, Vals, alive, onEntry}
 use denote.Triple.Spec.{tripleOf}
 use denote.Triple.Table.{entered}
-use denote.Triple.Walked.{Stays, AllGo, walkOf, walked, walk-meets}
+use denote.Triple.Walked.{Stays, AllGo, Ending, stay-none, walkOf, goes-none, ends-at, walked, walk-meets}
 use denote.Triple.Clauses.{Ended, Clauses, AtExit, atExit, lasts, ensured, closing}
 use Rattle.walker.specs.declared.Walker.{Walker}
 use Rattle.walker.proofs.Walker as T
@@ -158,3 +159,34 @@ module _ {M : Type 1} (𝓤 : URA M) (H : Heap 𝓤) (A : Atoms 𝓤) (W : Given
         qed W (raw (Token 𝓤 A κ q) ∷ ‵ (owns (Walkers (κ, tt) ∷ []) (d, tt) (T′.lowered d ∷ [], tt)) ∷ []) ∵ move ! (1 ∷ []) $ fsplit ! $ move ! (1 ∷ []) $ drop ! $ use1 W (‵ (Bytes κ (d .file))) (bytes d (T′.lowered d)) $
         use1 W (‵ (Bytes κ (d .file)) ⊛ ‵ (Bytes κ (d .file))) (twice (d .file)) $ split ! $ nothing ! $ owned ! u32 (Is u32) (uint-makes 𝓤 H A W w32) (d .number) _ (refl, number) $ fjoin ! $
         owned ! usize (Is usize) (uint-makes 𝓤 H A W w64) (d .at) _ (refl, at) $ fjoin ! $ move ! (1 ∷ 0 ∷ []) $ fjoin ! $ move ! (2 ∷ 0 ∷ []) $ join ! $ frame ! $ done !
+
+-- a function of one walker, which is at its exit as it was passed; and the walker's typing
+abbrev Taking : Slot 1 → Ended
+Taking R = record { signature = record { lifetimes = 1; outlives = []; params = plain Walkers ∷ []; result = R }; kept = (yes, tt) }
+
+abbrev stayed : Stays {n = 1} (plain Walkers ∷ []) (yes, tt)
+stayed = (stay-none Walkers yes, tt)
+
+abbrev Fits : Walker → Type 0
+Fits d = Holds (hasTy (T′.mir (named 0)) (T′.lowered d)) × WT (T′.lowered d)
+
+module _ {M : Type 1} (𝓤 : URA M) (H : Heap 𝓤) (A : Atoms 𝓤) (R : Slot 1) (c : Clauses 𝓤 (Taking R)) (κ : Lft) (q : Share) (d : Walker) (g : c (κ, tt) (d, tt) .ghost) where
+  abbrev taken : walkOf 𝓤 H A (Taking R) stayed c .Ghost
+  taken = (((κ, tt), (q, tt), tt, (d, tt), (T′.lowered d ∷ [], tt)), g)
+
+  -- what a walk of its code shows, and how the walk ends
+  abbrev pub Walks : Calls 𝓤 H → Loops 𝓤 H → Fn → Type 1
+  Walks C Λ f = Fits d → ent 𝓤 (onEntry 𝓤 H A (Taking R .signature) (κ, tt) (q, tt) (d, tt) (T′.lowered d ∷ [], tt)) (WpFn 𝓤 H C Λ f (T′.lowered d ∷ []) (walkOf 𝓤 H A (Taking R) stayed c .post taken))
+
+  pub ends : Given 𝓤 H A → (u : Val) (r : Res (Taking R .signature) (κ, tt)) → ent 𝓤 (Ending 𝓤 H A (Taking R) stayed c taken u r (tt, tt)) (walkOf 𝓤 H A (Taking R) stayed c .post taken u)
+  ends W u r = ends-at 𝓤 H A (Taking R) stayed c W taken u r (tt, tt) (tt, tt)
+
+module _ {M : Type 1} (𝓤 : URA M) (H : Heap 𝓤) (𝓜 : Model 𝓤 H) (𝓖 : GhostRules 𝓤 H) (𝓡 : Running 𝓤 H 𝓜) (R : Slot 1) (c : Clauses 𝓤 (Taking R)) (γ : Environment) (k : Name) (f : Fn) where
+  -- from such a walk to the theorem
+  pub theorem-of : Closed 𝓤 H (tables 𝓤 H 𝓜 𝓡 γ .C) (tables 𝓤 H 𝓜 𝓡 γ .Λ) k f
+      → (FmC 𝓤 H (givenOf 𝓤 H 𝓜 𝓖 .laws) (tables 𝓤 H 𝓜 𝓡 γ .C) → (κ : Lft) (q : Share) (d : Walker) (g : c (κ, tt) (d, tt) .ghost) → Walks 𝓤 H (𝓖 .A) R c κ q d g (tables 𝓤 H 𝓜 𝓡 γ .C) (tables 𝓤 H 𝓜 𝓡 γ .Λ) f)
+      → Triple 𝓤 (tables 𝓤 H 𝓜 𝓡 γ .C k) (tripleOf 𝓤 H (𝓖 .A) (Taking R .signature) (closing 𝓤 H (𝓖 .A) (Taking R) c))
+  theorem-of closed walk =
+      let W = givenOf 𝓤 H 𝓜 𝓖 in
+      theorem 𝓤 H 𝓜 𝓖 𝓡 (Taking R) stayed c γ k f closed (goes-none 𝓤 H (𝓖 .A) W 1 Walkers yes (λ κs x f. refl), tt) (λ κs. (LL.vals (type κs) (laws κs), tt)) (λ κs. (LL.tells (type κs) (laws κs), tt))
+      (λ fm κs qs bounds a g are. walk fm (κs .0) (qs .0) (a .0) g (typed 𝓤 H (𝓖 .A) W (κs .0) (named 0) (a .0) _ (are .0)))

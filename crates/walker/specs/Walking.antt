@@ -1,4 +1,4 @@
--- Walking a file's credentials (document 01, 'The credentials file'). Every walker value has a meaning, also one that `walk` did not make.
+-- Walking a file's credentials (document 01, 'The credentials file'). Only this crate makes walkers: other crates have those of `walk` and `next`; `nth` makes one at any place.
 use mathlib.Core.List.{List}
 use Prim.Native.Nat.{ℕ, _+_}
 use lib.Dec.{eqb}
@@ -39,6 +39,10 @@ nextOf w = record { file = w .file; at = placeAfter (now (w .file)) (w .at) (w .
 
 abbrev pub credentialOf : Walker → Found
 credentialOf w = foundAt (now (w .file)) (w .at) (w .number)
+
+-- number and place that a walker carries; both 0 where it is not refused
+abbrev pub refusalIn : Walker → Refusal
+refusalIn w = record { number = w .number; place = w .place }
 
 -- the credential at a place of a file that passes 1 to 8
 abbrev pub nthOf : List ℕ → ℕ → Found

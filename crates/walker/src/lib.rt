@@ -1,13 +1,13 @@
 // Walking a file's credentials: thin functions over a struct that holds the caller's bytes and a place.
 ghost use mathlib.Core.Path.{_≡_};
-ghost use Rattle.walker.specs.Walking.{opened, walkerOf, placeAfter, nextOf, foundAt, credentialOf, nthOf, entryIn};
+ghost use Rattle.walker.specs.Walking.{opened, walkerOf, placeAfter, nextOf, foundAt, credentialOf, refusalIn, nthOf, entryIn};
 
 // The credential at place `at` of the file. A refused walker carries the refusal's number and place, and is at its end.
 pub struct Walker<'a> {
-    pub file: &'a [u8],
-    pub at: usize,
-    pub number: u32,
-    pub place: u32,
+    file: &'a [u8],
+    at: usize,
+    number: u32,
+    place: u32,
 }
 
 // What stands at a place of a file.
@@ -78,6 +78,16 @@ pub fn credential<'a>(w: Walker<'a>) -> file::Found
     ensures { λ r. ⌜ r ≡ credentialOf (w .entry) ⌝ }
 {
     found_at(w.file, w.at, w.number)
+}
+
+// The refusal that the walker carries; number and place are 0 where it is not refused.
+pub fn refusal<'a>(w: Walker<'a>) -> file::Refusal
+    ensures { λ r. ⌜ r ≡ refusalIn (w .entry) ⌝ }
+{
+    file::Refusal {
+        number: w.number,
+        place: w.place,
+    }
 }
 
 // The credential at a place of a file; the end also where the file is refused.

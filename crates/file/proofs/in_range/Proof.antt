@@ -4,57 +4,81 @@ use Rattle.file.proofs.Uses.{in-range-kind}
 use borrow.Author.Needs.{needs}
 use Rattle.file.proofs.in_range.Statement.{statement}
 use Rattle.file.proofs.in_range.Tie as tie
+use Rattle.file.proofs.in_range.Reads as reads
+use Rattle.file.proofs.in_range.Lts as lts
+use Rattle.file.proofs.below.Reads as below-reads
+use Rattle.file.proofs.used_by.Reads as used-by-reads
 
+-- src/lib.rt:186:18
 mul-at : tie.Need-mul-at
 mul-at c = search needs
 
+-- src/lib.rt:186:14
 add-at : tie.Need-add-at
 add-at c = search needs
 
-shared-slice-read-kind : tie.Need-shared-slice-read-kind
-shared-slice-read-kind c = search needs
+-- src/lib.rt:187:21
+shared-slice-read-used-by : tie.Need-shared-slice-read-used-by
+shared-slice-read-used-by c = search needs
 
+-- src/lib.rt:187:9
+used-by-requires : tie.Need-used-by-requires
+used-by-requires c κs = search needs
+
+-- src/lib.rt:188:32
 add-below : tie.Need-add-below
 add-below c = search needs
 
+-- src/lib.rt:188:20
 below-requires : tie.Need-below-requires
 below-requires c κs = search needs
 
+-- src/lib.rt:189:23
 add-below-2 : tie.Need-add-below-2
 add-below-2 c = search needs
 
+-- src/lib.rt:189:11
 below-requires-2 : tie.Need-below-requires-2
 below-requires-2 c κs = search needs
 
+-- src/lib.rt:190:31
 add-below-3 : tie.Need-add-below-3
 add-below-3 c = search needs
 
+-- src/lib.rt:190:19
 below-requires-3 : tie.Need-below-requires-3
 below-requires-3 c κs = search needs
 
+-- src/lib.rt:191:29
 add-below-4 : tie.Need-add-below-4
 add-below-4 c = search needs
 
+-- src/lib.rt:191:17
 below-requires-4 : tie.Need-below-requires-4
 below-requires-4 c κs = search needs
 
+-- src/lib.rt:192:31
 add-below-5 : tie.Need-add-below-5
 add-below-5 c = search needs
 
+-- src/lib.rt:192:19
 below-requires-5 : tie.Need-below-requires-5
 below-requires-5 c κs = search needs
 
+-- src/lib.rt:193:31
 add-below-6 : tie.Need-add-below-6
 add-below-6 c = search needs
 
+-- src/lib.rt:193:19
 below-requires-6 : tie.Need-below-requires-6
 below-requires-6 c κs = search needs
 
+-- src/lib.rt:182:1
 returns : tie.Need-returns
 returns c =
-    let s = c .before .before .before .before .before .before .before .before in
+    let s = c .before .before .before .before .before .before .before .before .before .before .before .before in
     simp
-    (c .before .before .before .before .before .below .ensures, c .before .before .before .before .below2 .ensures, c .before .before .before .below3 .ensures, c .before .before .below4 .ensures, c .before .below5 .ensures, c .below6 .ensures)
+    (c .before .before .before .before .before .before .before .before .before .used-by .ensures, c .before .before .before .before .before .before .before .before .below .ensures, c .before .before .before .before .before .before .before .below2 .ensures, c .before .before .before .before .before .below3 .ensures, c .before .before .before .before .below4 .ensures, c .before .before .below5 .ensures, c .below6 .ensures)
     (sym (in-range-kind (s .args .file .now) (s .args .i) (s .args .e) (s .args .r) (s .pre .0 .kind) (s .pre .1 .0) (s .pre .1 .1)))
 
 pub in-range-spec : {M : Type 1} → statement M
@@ -63,7 +87,8 @@ in-range-spec =
     (tie.spec
     mul-at
     add-at
-    shared-slice-read-kind
+    shared-slice-read-used-by
+    used-by-requires
     add-below
     below-requires
     add-below-2

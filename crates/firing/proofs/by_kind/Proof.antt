@@ -5,7 +5,7 @@ use borrow.Author.Needs.{needs}
 use Rattle.store.specs.Entries.{setIn}
 use Rattle.store.proofs.Keys.{set-below}
 use Rattle.firing.specs.Steps.{kindOf, otherOf}
-use Rattle.firing.proofs.Heads.{headed-same}
+use Rattle.heads.proofs.Heads.{headed-same}
 use Rattle.firing.proofs.Premises.{each-headed}
 use Rattle.firing.proofs.Combining.{one-body, body-one, same-body, body-same, pair-body, body-pair}
 use Rattle.firing.proofs.by_kind.Statement.{statement}

@@ -7,8 +7,10 @@ use lib.Count.{trailingZeros}
 use lib.Pow.{pow-lt}
 use Rattle.store.specs.Entries.{keyOf, roleIn, setIn}
 use Rattle.store.proofs.Keys.{set-below}
-use Rattle.firing.specs.Steps.{Gains, Headed, familyOf, otherOf, WithOne}
-use Rattle.firing.proofs.Heads.{headed-none, headed-same}
+use Rattle.heads.specs.Gaining.{Gains}
+use Rattle.heads.specs.Heads.{Headed}
+use Rattle.firing.specs.Steps.{familyOf, otherOf, WithOne}
+use Rattle.heads.proofs.Heads.{headed-none, headed-same}
 use Rattle.firing.proofs.Premises.{each-headed}
 use Rattle.firing.proofs.Combining.{sole-below, shifted, linked-none, link-role, link-body, body-link, name-body, body-name}
 use Rattle.firing.proofs.by_link.Tie as tie

@@ -5,11 +5,12 @@ use native.Mathlib.Omega.{arith}
 use borrow.Author.Needs.{needs}
 use lib.ListN.{length}
 use Rattle.store.specs.Entries.{latest}
-use Rattle.firing.specs.Steps.{Along, familyOf, FromBody}
-use Rattle.firing.proofs.Gaining.{alike, held-kept, gains-gained}
-use Rattle.firing.proofs.Walks.{lower, along-start, along-next, along-over, along-end}
-use Rattle.firing.proofs.Heads.{families-next}
-use Rattle.firing.proofs.Firings.{family-low, body-before, body-after, all-fires}
+use Rattle.heads.specs.Walks.{Along}
+use Rattle.heads.proofs.Gaining.{alike}
+use Rattle.heads.proofs.Walks.{lower, along-start, along-next, along-over, along-end}
+use Rattle.firing.specs.Steps.{familyOf, FromBody}
+use Rattle.firing.proofs.Gained.{held-kept, gains-gained}
+use Rattle.firing.proofs.Firings.{families-next, family-low, body-before, body-after, all-fires}
 use Rattle.firing.proofs.fire.Statement.{statement}
 use Rattle.firing.proofs.fire.Tie as tie
 

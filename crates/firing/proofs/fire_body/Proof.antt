@@ -1,7 +1,7 @@
 -- `firing::fire_body` leaves out the spans in which the body is not valid; there it gives nothing.
 use native.Mathlib.Omega.{arith}
 use borrow.Author.Needs.{needs}
-use Rattle.firing.proofs.Gaining.{gains-none}
+use Rattle.heads.proofs.Gaining.{gains-none}
 use Rattle.firing.proofs.Firings.{narrow-none, narrow-same}
 use Rattle.firing.proofs.fire_body.Statement.{statement}
 use Rattle.firing.proofs.fire_body.Tie as tie

@@ -4,7 +4,7 @@ use Prim.Native.Nat.{_-_, _<_}
 use native.Mathlib.Omega.{arith}
 use borrow.Author.Needs.{needs}
 use lib.ListN.{getD}
-use Rattle.firing.proofs.Heads.{headed-none, headed-same}
+use Rattle.heads.proofs.Heads.{headed-none, headed-same}
 use Rattle.firing.proofs.Premises.{at-entry, one-found, found-one, none-found}
 use Rattle.firing.proofs.with_one.Statement.{statement}
 use Rattle.firing.proofs.with_one.Tie as tie

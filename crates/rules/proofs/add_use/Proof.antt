@@ -5,7 +5,10 @@ use Prim.Native.Nat.{ℕ, _<_}
 use borrow.Author.Needs.{needs}
 use native.Mathlib.Omega.{arith}
 use Rattle.rules.specs.Places.{BodyPlaced}
-use Rattle.rules.proofs.Placing.{last-body, last-head, bodies-searched, heads-searched, body-placed, head-placed, use-placed}
+use Rattle.rules.proofs.Searching.{last-body, last-head, bodies-searched, heads-searched}
+use Rattle.rules.proofs.Bodies.{body-placed}
+use Rattle.rules.proofs.Heads.{head-placed}
+use Rattle.rules.proofs.Placing.{use-placed}
 use Rattle.rules.proofs.add_use.Statement.{statement}
 use Rattle.rules.proofs.add_use.Tie as tie
 

@@ -1,9 +1,9 @@
 -- `store::add` adds spans to the entry of a key, by the cases of `Adding`.
-use mathlib.Core.Path.{_≡_}
+use mathlib.Core.Path.{_≡_, refl}
 use Prim.Native.Nat.{ℕ, _-_, _<_}
 use native.Mathlib.Omega.{arith}
 use borrow.Author.Needs.{needs}
-use lib.ListN.{getD}
+use lib.ListN.{getD, set}
 use Rattle.store.proofs.Adding.{added-none, added-known, added-over, added-by}
 use Rattle.store.proofs.add.Statement.{statement}
 use Rattle.store.proofs.add.Tie as tie
@@ -92,6 +92,12 @@ returns-3 c =
 append-requires : tie.Need-append-requires
 append-requires c κs = search needs
 
+mul-spans-3 : tie.Need-mul-spans-3
+mul-spans-3 c = search needs
+
+slice-write-spans-2 : tie.Need-slice-write-spans-2
+slice-write-spans-2 c = search needs
+
 add-result-2 : tie.Need-add-result-2
 add-result-2 c = search needs
 
@@ -109,14 +115,14 @@ same-length-9 c = search needs
 
 returns-4 : tie.Need-returns-4
 returns-4 c =
-    let a = c .before .before .before .before .before .before .before .before in
-    let f = a .before .before .before .before .before .before .before .before in
+    let a = c .before .before .before .before .before .before in
+    let f = a .before .before .before .before .before .before .before in
     let e = start f .args in
     let h = start f .pre in
     let d = a .append in
-    added-by (e .limit) (e .key) (e .m) (e .keys .now) (e .spans .now) (e .slots .now) (e .links .now) (e .n) (f .find .result) (h .0) (h .1 .0) (a .before .before .before .before .before .if3 .left) (h .1 .2) (h .1 .3) (f .find .ensures) (a .before .before .before .before .before .before .if2 .left)
-    (d .last .0) (d .last .1 .0) (d .last .1 .1 .0) (d .last .1 .1 .1 .0) (f .before .before .before .if1 .left)
-    (d .ensures .0) (d .ensures .1 .0) (d .ensures .1 .1 .0) (d .ensures .1 .1 .1)
+    added-by (e .limit) (e .key) (e .keys .now) (e .slots .now) (e .links .now) (e .n) (f .find .result) (h .0) (a .before .before .before .before .if3 .left) (h .1 .2) (h .1 .3) (f .find .ensures) (a .before .before .before .before .before .if2 .left) (e .m) (e .spans .now) (h .1 .0)
+    (d .last .0) (set (e .spans .now) (e .n) (e .m)) (d .last .1 .0) (d .last .1 .1 .0) (f .before .before .before .if1 .left)
+    (d .ensures .0) refl (d .ensures .1 .0) (d .ensures .1 .1)
 
 pub add-spec : {M : Type 1} → statement M
 add-spec =
@@ -142,6 +148,8 @@ add-spec =
     same-length-5
     returns-3
     append-requires
+    mul-spans-3
+    slice-write-spans-2
     add-result-2
     same-length-6
     same-length-7

@@ -14,12 +14,6 @@ mul-keys c = search needs
 slice-write-keys : tie.Need-slice-write-keys
 slice-write-keys c = search needs
 
-mul-spans : tie.Need-mul-spans
-mul-spans c = search needs
-
-slice-write-spans : tie.Need-slice-write-spans
-slice-write-spans c = search needs
-
 add-slots : tie.Need-add-slots
 add-slots c = search needs
 
@@ -65,9 +59,6 @@ same-length-2 c = search needs
 same-length-3 : tie.Need-same-length-3
 same-length-3 c = search needs
 
-same-length-4 : tie.Need-same-length-4
-same-length-4 c = search needs
-
 returns : tie.Need-returns
 returns c = search needs
 
@@ -78,8 +69,6 @@ append-spec =
     add-r
     mul-keys
     slice-write-keys
-    mul-spans
-    slice-write-spans
     add-slots
     cast-slots
     mul-slots
@@ -95,5 +84,4 @@ append-spec =
     same-length
     same-length-2
     same-length-3
-    same-length-4
     returns)

@@ -1,6 +1,6 @@
 -- `interval_line` writes five fields.
-use mathlib.Core.List.{append-assoc}
 use native.Mathlib.Omega.{arith}
+use Rattle.text.proofs.Putting.{_then_, lined}
 use borrow.Author.Needs.{needs}
 use Rattle.text.proofs.interval_line.Statement.{statement}
 use Rattle.text.proofs.interval_line.Tie as tie
@@ -27,7 +27,7 @@ returns c =
     let e₃ = c .before .before .before .before .put-field3 .ensures in
     let e₄ = c .before .before .put-field4 .ensures in
     let e₅ = c .put-field5 .ensures in
-    record { room = search needs; fits = omega arith; line = simp (e₅ .1, e₄ .1, e₃ .1, e₂ .1, e₁ .1, append-assoc) }
+    lined (search needs) (omega arith) (e₁ then e₂ then e₃ then e₄ then e₅)
 
 pub interval-line-spec : {M : Type 1} → statement M
 interval-line-spec =

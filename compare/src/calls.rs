@@ -1,0 +1,216 @@
+//! The three calls as they cross the C interface, by the library and by the second implementation.
+
+use crate::reference::known::{steps, After, Known, Question};
+use crate::reference::meaning::Members;
+use crate::reference::{querying, Rules};
+
+/// A lent slice: pointer and length in bytes.
+#[derive(Clone, Copy)]
+#[repr(C)]
+pub struct Slice {
+    pub start: *mut u8,
+    pub length: usize,
+}
+
+impl Slice {
+    /// The first bytes.
+    pub fn first(self, count: usize) -> Vec<u8> {
+        assert!(count <= self.length);
+        let mut bytes = vec![0; count];
+        if count > 0 {
+            // SAFETY: the slice is lent for the call, and nobody else writes to it meanwhile.
+            unsafe { std::ptr::copy_nonoverlapping(self.start, bytes.as_mut_ptr(), count) };
+        }
+        bytes
+    }
+
+    pub fn all(self) -> Vec<u8> {
+        self.first(self.length)
+    }
+
+    pub fn write(self, bytes: &[u8]) {
+        assert!(bytes.len() == self.length);
+        if !bytes.is_empty() {
+            // SAFETY: as for reading.
+            unsafe { std::ptr::copy_nonoverlapping(bytes.as_ptr(), self.start, bytes.len()) };
+        }
+    }
+}
+
+#[derive(Clone, Copy, PartialEq, Eq, Debug)]
+pub enum Call {
+    Complete,
+    Query,
+    Check,
+}
+
+impl Call {
+    pub const ALL: [Call; 3] = [Call::Complete, Call::Query, Call::Check];
+
+    pub fn name(self) -> &'static str {
+        match self {
+            Call::Complete => "rtt_complete",
+            Call::Query => "rtt_query",
+            Call::Check => "rtt_check",
+        }
+    }
+}
+
+pub trait Calls {
+    fn has(&self, call: Call) -> bool;
+    fn complete(&self, file: Slice, lists: [Slice; 3]) -> u64;
+    fn query(&self, file: Slice, q: Question, lists: [Slice; 4]) -> u64;
+    fn check(&self, file: Slice, q: Question, lists: [Slice; 4], count: u64) -> u64;
+}
+
+/// The functions of librtt.a; those that the archive lacks must not be called.
+pub struct Library;
+
+#[allow(dead_code)]
+mod c {
+    extern "C" {
+        pub fn rtt_complete(
+            file: *const u8,
+            file_length: usize,
+            roles: *mut u8,
+            roles_length: usize,
+            sets: *mut u8,
+            sets_length: usize,
+            spans: *mut u8,
+            spans_length: usize,
+        ) -> u64;
+        pub fn rtt_query(
+            file: *const u8,
+            file_length: usize,
+            role: u32,
+            set: u32,
+            minute: u32,
+            credential: *mut u8,
+            credential_length: usize,
+            first: *mut u8,
+            first_length: usize,
+            second: *mut u8,
+            second_length: usize,
+            sets: *mut u8,
+            sets_length: usize,
+        ) -> u64;
+        pub fn rtt_check(
+            file: *const u8,
+            file_length: usize,
+            role: u32,
+            set: u32,
+            minute: u32,
+            credential: *const u8,
+            credential_length: usize,
+            first: *const u8,
+            first_length: usize,
+            second: *const u8,
+            second_length: usize,
+            sets: *const u8,
+            sets_length: usize,
+            steps: u64,
+        ) -> u64;
+    }
+}
+
+#[allow(unused_variables)]
+impl Calls for Library {
+    fn has(&self, call: Call) -> bool {
+        match call {
+            Call::Complete => cfg!(rtt_complete),
+            Call::Query => cfg!(rtt_query),
+            Call::Check => cfg!(rtt_check),
+        }
+    }
+
+    fn complete(&self, f: Slice, [a, b, c]: [Slice; 3]) -> u64 {
+        #[cfg(rtt_complete)]
+        // SAFETY: the slices are lent as the interface asks, and apart from each other.
+        return unsafe { c::rtt_complete(f.start, f.length, a.start, a.length, b.start, b.length, c.start, c.length) };
+        #[cfg(not(rtt_complete))]
+        unreachable!("not in the archive")
+    }
+
+    fn query(&self, f: Slice, q: Question, [a, b, c, d]: [Slice; 4]) -> u64 {
+        #[cfg(rtt_query)]
+        // SAFETY: as for completing.
+        return unsafe {
+            c::rtt_query(f.start, f.length, q.role, q.set, q.minute, a.start, a.length, b.start, b.length, c.start, c.length, d.start, d.length)
+        };
+        #[cfg(not(rtt_query))]
+        unreachable!("not in the archive")
+    }
+
+    fn check(&self, f: Slice, q: Question, [a, b, c, d]: [Slice; 4], count: u64) -> u64 {
+        #[cfg(rtt_check)]
+        // SAFETY: as for completing.
+        return unsafe {
+            c::rtt_check(
+                f.start, f.length, q.role, q.set, q.minute, a.start, a.length, b.start, b.length, c.start, c.length, d.start, d.length, count,
+            )
+        };
+        #[cfg(not(rtt_check))]
+        unreachable!("not in the archive")
+    }
+}
+
+/// The second implementation behind the same interface.
+pub struct Second {
+    pub rules: Rules,
+}
+
+impl Calls for Second {
+    fn has(&self, _: Call) -> bool {
+        true
+    }
+
+    fn complete(&self, file: Slice, lists: [Slice; 3]) -> u64 {
+        let (reply, after) = Known::new(self.rules, &file.all()).complete(lists.map(|list| list.length));
+        match after {
+            After::Unchanged => {}
+            After::Zero => zero(&lists),
+            After::Holds(bytes) => lists.iter().zip(bytes).for_each(|(list, bytes)| list.write(&bytes)),
+        }
+        reply
+    }
+
+    fn query(&self, file: Slice, q: Question, lists: [Slice; 4]) -> u64 {
+        let known = Known::new(self.rules, &file.all());
+        match known.query(q, lists.map(|list| list.length)) {
+            Err((refusal, after)) => {
+                if after == After::Zero {
+                    zero(&lists);
+                }
+                refusal.reply()
+            }
+            Ok(level) => {
+                let Members::Levels(levels) = &*known.members(q.minute) else { unreachable!() };
+                let file = known.read.as_ref().unwrap();
+                let steps = querying::proof(&self.rules, file, q.minute, levels, q.membership());
+                write_steps(&steps, lists);
+                steps.len() as u64 + level as u64 * 65_536
+            }
+        }
+    }
+
+    fn check(&self, file: Slice, q: Question, lists: [Slice; 4], count: u64) -> u64 {
+        let first = |count: usize| {
+            let bytes = lists.map(|list| list.first(4 * count));
+            steps(&[&bytes[0], &bytes[1], &bytes[2], &bytes[3]], count)
+        };
+        Known::new(self.rules, &file.all()).check(q, lists.map(|list| list.length), count, first)
+    }
+}
+
+pub fn zero(lists: &[Slice]) {
+    lists.iter().for_each(|list| list.write(&vec![0; list.length]));
+}
+
+/// The steps' words in the four lists, zeros after them.
+pub fn write_steps(steps: &[crate::reference::checking::Step], lists: [Slice; 4]) {
+    let words = crate::input::words(steps);
+    for (list, mut bytes) in lists.into_iter().zip(words) {
+        bytes.resize(list.length, 0);
+        list.write(&bytes);
+    }
+}

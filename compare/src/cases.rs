@@ -1,0 +1,125 @@
+//! Document 01's cases, with the results that the document states.
+
+use crate::calls::Call;
+use crate::explore::{completed, handed_out, queried};
+use crate::files::{Draft, Period};
+use crate::judge::{Compared, Comparison, Failure};
+use crate::random::Random;
+use crate::reference::known::Question;
+use crate::reference::reading::word;
+
+/// The 54 bytes of set P as document 01 prints them.
+const P: &str = "030002000300 0000000100000000 0000000200000000 0500010000000000 0A00000014000000 0F0000001E000000 0000000012000000";
+
+fn set_p() -> Vec<u8> {
+    let digits: String = P.split(' ').collect();
+    (0..digits.len()).step_by(2).map(|at| u8::from_str_radix(&digits[at..at + 2], 16).unwrap()).collect()
+}
+
+/// Set P with ⊙ in place of ⊗.
+fn set_p_union() -> Vec<u8> {
+    let mut bytes = set_p();
+    bytes[6 + 16] = 4;
+    bytes
+}
+
+/// A table's rows: role, set, spans.
+type Rows = Vec<(u32, u32, u64)>;
+
+fn k7() -> Vec<u8> {
+    let mut draft = Draft::new(2, 1);
+    draft.include(0, 32, (0, 10));
+    draft.include(32, 0, (0, 10));
+    draft.bytes()
+}
+
+fn k8() -> Vec<u8> {
+    let mut draft = Draft::new(3, 1);
+    draft.include(0, 32, (0, 10));
+    draft.fact(32, 2, (0, 5));
+    draft.fact(32, 2, (5, 10));
+    draft.bytes()
+}
+
+/// 1.0 has only {1,2}, by helpers 0.1 and 0.2; the linked entities' own roles have sets, so that a wrong link would show.
+fn k9() -> Vec<u8> {
+    let mut draft = Draft::new(4, 3);
+    let period: Period = (0, 10);
+    draft.link(0, 32, 0, period);
+    draft.fact(1, 1, period);
+    draft.fact(2, 2, period);
+    draft.pair(5, 32, 1, 2, period);
+    draft.fact(64, 3, period);
+    draft.bytes()
+}
+
+/// Document 003's Example 1: entities F, Alex, Betty, David, John, Emily; names student, phdStudent, students, activeSubject.
+fn k10() -> Vec<u8> {
+    let mut draft = Draft::new(6, 4);
+    let period: Period = (0, 100);
+    draft.pair(5, 2, 0, 0, period);
+    draft.pair(4, 3, 1, 2, period);
+    (1..5).for_each(|entity| draft.fact(0, entity, period));
+    draft.fact(1, 4, period);
+    draft.fact(1, 5, period);
+    draft.bytes()
+}
+
+fn tables() -> Vec<(&'static str, Vec<u8>, Rows)> {
+    let k9_rows = vec![(1, 2, 1), (2, 4, 1), (32, 6, 1), (64, 8, 1)];
+    vec![
+        ("P", set_p(), vec![(0, 2, 14), (0, 4, 28), (1, 6, 4)]),
+        ("K7", k7(), vec![]),
+        ("K8", k8(), vec![(0, 4, 3), (32, 4, 3)]),
+        ("K9", k9(), k9_rows),
+        ("K11", Draft::new(1, 1).bytes(), vec![]),
+    ]
+}
+
+pub fn run(c: &mut Comparison, random: &mut Random, count: usize) -> Compared<()> {
+    for _ in 0..count {
+        for (name, file, rows) in tables() {
+            let found = rows_of(c, random, &file)?;
+            expect(found.is_none() || found.as_ref() == Some(&rows), name)?;
+        }
+        if let Some(rows) = rows_of(c, random, &k10())? {
+            expect(rows.len() == 24 && rows.iter().filter(|row| row.0 == 3).count() == 12, "K10")?;
+        }
+        for (name, file, set, minute, proof) in [
+            ("K1", set_p(), 6, 15, Some((2, 3))),
+            ("K2", set_p(), 6, 17, Some((2, 3))),
+            ("K3", set_p(), 6, 18, None),
+            ("K4", set_p(), 6, 14, None),
+            ("K5", set_p_union(), 2, 10, Some((2, 2))),
+            ("K6", set_p(), 2, 10, None),
+        ] {
+            let known = c.known(&file);
+            let question = Question { role: 1, set, minute };
+            let given = c.query(&known, queried(&file, question, 8, random.next()))?;
+            expect(given.as_ref().map(|proof| (proof.level, proof.steps.len())) == proof, name)?;
+            if let Some(given) = given {
+                handed_out(c, &file, &known, question, &given, 8, random.next())?;
+            }
+        }
+    }
+    Ok(())
+}
+
+/// The rows that completing writes; none without the call.
+fn rows_of(c: &mut Comparison, random: &mut Random, file: &[u8]) -> Compared<Option<Rows>> {
+    let known = c.known(file);
+    if !c.has(Call::Complete) {
+        return Ok(None);
+    }
+    let Some(written) = c.complete(&known, completed(file, 30, random.next()))? else { return Ok(Some(vec![(0, 0, 0)])) };
+    let [roles, sets, spans] = &written.lists;
+    let row = |i| (word(roles, i), word(sets, i), word(spans, 2 * i) as u64);
+    Ok(Some((0..written.count).map(row).collect()))
+}
+
+fn expect(holds: bool, name: &str) -> Compared<()> {
+    match holds {
+        true => Ok(()),
+        false => Err(Failure(format!("case {name} is not as document 01 states"))),
+    }
+}

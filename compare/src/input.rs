@@ -1,0 +1,122 @@
+//! One input of one call, and its text form, by which it can be repeated.
+
+use crate::calls::Call;
+use crate::reference::checking::Step;
+use crate::reference::known::Question;
+use std::fmt;
+
+/// `fill` decides the garbage in the lists, the guard bytes and where the slices lie.
+#[derive(Clone, Debug)]
+pub struct Complete<'a> {
+    pub file: &'a [u8],
+    pub lengths: [usize; 3],
+    pub fill: u64,
+}
+
+#[derive(Clone, Debug)]
+pub struct Query<'a> {
+    pub file: &'a [u8],
+    pub question: Question,
+    pub lengths: [usize; 4],
+    pub fill: u64,
+}
+
+/// The lists may be longer than the bytes given for them; what follows these is garbage, or unreadable if `hidden`.
+#[derive(Clone, Debug)]
+pub struct Check<'a> {
+    pub file: &'a [u8],
+    pub question: Question,
+    pub lists: [Vec<u8>; 4],
+    pub lengths: [usize; 4],
+    pub count: u64,
+    pub hidden: bool,
+    pub fill: u64,
+}
+
+#[derive(Clone, Debug)]
+pub enum Input<'a> {
+    Complete(Complete<'a>),
+    Query(Query<'a>),
+    Check(Check<'a>),
+}
+
+impl Input<'_> {
+    pub fn call(&self) -> Call {
+        match self {
+            Input::Complete(_) => Call::Complete,
+            Input::Query(_) => Call::Query,
+            Input::Check(_) => Call::Check,
+        }
+    }
+}
+
+/// The four lists' bytes of some steps.
+pub fn words(steps: &[Step]) -> [Vec<u8>; 4] {
+    let list = |word: fn(&Step) -> u32| steps.iter().flat_map(|step| word(step).to_le_bytes()).collect();
+    [list(|s| s.credential), list(|s| s.first), list(|s| s.second), list(|s| s.set)]
+}
+
+fn hex(bytes: &[u8]) -> String {
+    bytes.iter().map(|byte| format!("{byte:02x}")).collect()
+}
+
+fn list(lengths: &[usize]) -> String {
+    lengths.iter().map(usize::to_string).collect::<Vec<_>>().join(",")
+}
+
+impl fmt::Display for Input<'_> {
+    fn fmt(&self, f: &mut fmt::Formatter) -> fmt::Result {
+        let question = |q: &Question| format!("role={} set={} minute={}", q.role, q.set, q.minute);
+        match self {
+            Input::Complete(i) => write!(f, "complete file={} lengths={} fill={}", hex(i.file), list(&i.lengths), i.fill),
+            Input::Query(i) => write!(f, "query file={} {} lengths={} fill={}", hex(i.file), question(&i.question), list(&i.lengths), i.fill),
+            Input::Check(i) => {
+                write!(f, "check file={} {} lengths={}", hex(i.file), question(&i.question), list(&i.lengths))?;
+                let lists = i.lists.iter().map(|bytes| hex(bytes)).collect::<Vec<_>>().join(",");
+                write!(f, " lists={lists} count={} hidden={} fill={}", i.count, i.hidden, i.fill)
+            }
+        }
+    }
+}
+
+fn bytes(text: &str) -> Option<Vec<u8>> {
+    (0..text.len()).step_by(2).map(|at| u8::from_str_radix(text.get(at..at + 2)?, 16).ok()).collect()
+}
+
+fn numbers<const N: usize>(text: &str) -> Option<[usize; N]> {
+    text.split(',').map(|n| n.parse().ok()).collect::<Option<Vec<_>>>()?.try_into().ok()
+}
+
+/// An input as its words; the file's bytes apart, since an input borrows them.
+pub struct Words<'a>(pub &'a [String]);
+
+impl Words<'_> {
+    fn value(&self, name: &str) -> Option<&str> {
+        self.0.iter().find_map(|word| word.strip_prefix(name)?.strip_prefix('='))
+    }
+
+    pub fn file(&self) -> Option<Vec<u8>> {
+        bytes(self.value("file")?)
+    }
+
+    pub fn input<'f>(&self, file: &'f [u8]) -> Option<Input<'f>> {
+        let number = |name| self.value(name)?.parse().ok();
+        let question = || Some(Question { role: number("role")?, set: number("set")?, minute: number("minute")? });
+        let fill = self.value("fill")?.parse().ok()?;
+        let lengths = self.value("lengths")?;
+        Some(match self.0.first()?.as_str() {
+            "complete" => Input::Complete(Complete { file, lengths: numbers(lengths)?, fill }),
+            "query" => Input::Query(Query { file, question: question()?, lengths: numbers(lengths)?, fill }),
+            "check" => Input::Check(Check {
+                file,
+                question: question()?,
+                lengths: numbers(lengths)?,
+                lists: self.value("lists")?.split(',').map(bytes).collect::<Option<Vec<_>>>()?.try_into().ok()?,
+                count: self.value("count")?.parse().ok()?,
+                hidden: self.value("hidden")?.parse().ok()?,
+                fill,
+            }),
+            _ => return None,
+        })
+    }
+}

@@ -1,0 +1,235 @@
+//! Holds the calls of one implementation, input by input, against what the second implementation says.
+
+use crate::calls::{Call, Calls, Slice};
+use crate::input::{words, Check, Complete, Input, Query};
+use crate::lent::Lent;
+use crate::random::Random;
+use crate::reference::checking::Step;
+use crate::reference::known::{steps, After, Known, Question};
+use crate::reference::meaning::Members;
+use crate::reference::{querying, RIGHT};
+use crate::watch;
+use std::collections::BTreeMap;
+
+/// An input on which the two differ, as text.
+#[derive(Debug)]
+pub struct Failure(pub String);
+
+pub type Compared<T> = Result<T, Failure>;
+
+/// Inputs compared: by kind and call, and by call and refusal number (0 for success).
+#[derive(Default)]
+pub struct Counts {
+    pub kinds: BTreeMap<&'static str, [u64; 4]>,
+    pub replies: BTreeMap<(&'static str, u32), u64>,
+    pub longest: u64,
+    pub deepest: u64,
+}
+
+pub struct Comparison<'a> {
+    subject: &'a dyn Calls,
+    file: Lent,
+    lists: [Lent; 4],
+    /// Whether entries past the step count may be made unreadable.
+    hides: bool,
+    pub kind: &'static str,
+    pub counts: Counts,
+}
+
+/// A proof that was handed out, with its level.
+pub struct Proof {
+    pub steps: Vec<Step>,
+    pub level: usize,
+}
+
+/// The table as completing left it in the lists.
+pub struct Written {
+    pub count: usize,
+    pub lists: [Vec<u8>; 3],
+}
+
+impl<'a> Comparison<'a> {
+    pub fn new(subject: &'a dyn Calls, hides: bool) -> Comparison<'a> {
+        let lists = [(); 4].map(|_| Lent::new());
+        Comparison { subject, file: Lent::new(), lists, hides, kind: "", counts: Counts::default() }
+    }
+
+    pub fn has(&self, call: Call) -> bool {
+        self.subject.has(call)
+    }
+
+    /// A file, as its kind counts it, with what the second implementation knows of it.
+    pub fn known(&mut self, file: &[u8]) -> Known {
+        self.counts.kinds.entry(self.kind).or_default()[0] += 1;
+        Known::new(RIGHT, file)
+    }
+
+    pub fn input(&mut self, known: &Known, input: Input) -> Compared<()> {
+        match input {
+            Input::Complete(i) => self.complete(known, i).map(|_| ()),
+            Input::Query(i) => self.query(known, i).map(|_| ()),
+            Input::Check(i) => self.check(known, i).map(|_| ()),
+        }
+    }
+
+    /// Completing; the table that was written, if one was.
+    pub fn complete(&mut self, known: &Known, input: Complete) -> Compared<Option<Written>> {
+        if !self.subject.has(Call::Complete) {
+            return Ok(None);
+        }
+        let mut at = Random(input.fill);
+        let file = self.file.lend(input.file, &mut at);
+        let lists = [0, 1, 2].map(|i| self.lists[i].lend_garbage(input.lengths[i], &mut at));
+        let before = lists.map(Slice::all);
+        let lengths = input.lengths;
+        let input = Input::Complete(input);
+        let reply = watch::during(&input, || self.subject.complete(file, lists));
+        let (expected, after) = known.complete(lengths);
+        self.reply(&input, reply, expected)?;
+        let held = match after {
+            After::Unchanged => before,
+            After::Zero => lengths.map(|length| vec![0; length]),
+            After::Holds(table) => table,
+        };
+        self.lent(&input, &held)?;
+        Ok((expected >> 32 == 0).then(|| Written { count: reply as usize, lists: held }))
+    }
+
+    /// Querying; the proof that was handed out, if one was. Without the call, the second implementation's proof.
+    pub fn query(&mut self, known: &Known, input: Query) -> Compared<Option<Proof>> {
+        let (question, lengths) = (input.question, input.lengths);
+        let expected = known.query(question, lengths);
+        if !self.subject.has(Call::Query) {
+            return Ok(expected.ok().map(|level| Proof { steps: own_proof(known, question), level }));
+        }
+        let mut at = Random(input.fill);
+        let file = self.file.lend(input.file, &mut at);
+        let lists = [0, 1, 2, 3].map(|i| self.lists[i].lend_garbage(lengths[i], &mut at));
+        let before = match &expected {
+            Err((_, After::Unchanged)) => lists.map(Slice::all),
+            _ => lengths.map(|length| vec![0; length]),
+        };
+        let input = Input::Query(input);
+        let reply = watch::during(&input, || self.subject.query(file, question, lists));
+        match expected {
+            Err((refusal, _)) => {
+                self.reply(&input, reply, refusal.reply())?;
+                self.lent(&input, &before)?;
+                Ok(None)
+            }
+            Ok(least) => self.proof(&input, known, question, reply, least).map(Some),
+        }
+    }
+
+    /// A success reply of querying and the lists after it, judged by the rules.
+    fn proof(&mut self, input: &Input, known: &Known, q: Question, reply: u64, least: usize) -> Compared<Proof> {
+        let (count, level) = ((reply % 65_536) as usize, (reply / 65_536) as usize);
+        let length = self.lists[0].now().len() / 4;
+        if reply >> 32 != 0 || count < 1 || count > length {
+            let what = format!("reply {}, expected a proof of level {least}", shown(input, reply));
+            return Err(self.failure(input, what));
+        }
+        let now = [0, 1, 2, 3].map(|i| self.lists[i].now());
+        let steps = steps(&now, count);
+        let file = known.read.as_ref().expect("an accepted file");
+        if let Err(why) = querying::judge(&RIGHT, file, q.membership(), q.minute, least, level, &steps) {
+            return Err(self.failure(input, format!("reply {}: {why}; steps {steps:?}", shown(input, reply))));
+        }
+        // The words of the steps, then zeros.
+        let held = words(&steps).map(|mut bytes| {
+            bytes.resize(4 * length, 0);
+            bytes
+        });
+        self.reply(input, reply, reply)?;
+        self.lent(input, &held)?;
+        self.counts.longest = self.counts.longest.max(count as u64);
+        self.counts.deepest = self.counts.deepest.max(level as u64);
+        Ok(Proof { steps, level })
+    }
+
+    /// Checking; the reply.
+    pub fn check(&mut self, known: &Known, mut input: Check) -> Compared<u64> {
+        input.hidden &= self.hides;
+        let (question, lengths, count) = (input.question, input.lengths, input.count);
+        let mut at = Random(input.fill);
+        let all: [Vec<u8>; 4] = [0, 1, 2, 3].map(|i| {
+            let mut bytes = input.lists[i].clone();
+            if input.hidden {
+                bytes.truncate(4 * count as usize);
+            } else {
+                let given = bytes.len();
+                bytes.resize(lengths[i], 0);
+                at.fill(&mut bytes[given.min(lengths[i])..]);
+            }
+            bytes
+        });
+        let expected = known.check(question, lengths, count, |n| steps(&[&all[0], &all[1], &all[2], &all[3]], n));
+        if !self.subject.has(Call::Check) {
+            return Ok(expected);
+        }
+        let file = self.file.lend(input.file, &mut at);
+        let lists = [0, 1, 2, 3].map(|i| match input.hidden {
+            true => self.lists[i].lend_part(&all[i], lengths[i], &mut at),
+            false => self.lists[i].lend(&all[i], &mut at),
+        });
+        let input = Input::Check(input);
+        let reply = watch::during(&input, || self.subject.check(file, question, lists, count));
+        self.reply(&input, reply, expected)?;
+        self.lent(&input, &all)?;
+        Ok(reply)
+    }
+
+    fn reply(&mut self, input: &Input, reply: u64, expected: u64) -> Compared<()> {
+        if reply != expected {
+            let what = format!("reply {}, expected {}", shown(input, reply), shown(input, expected));
+            return Err(self.failure(input, what));
+        }
+        let call = input.call();
+        self.counts.kinds.entry(self.kind).or_default()[1 + call as usize] += 1;
+        *self.counts.replies.entry((call.name(), (reply >> 32) as u32)).or_default() += 1;
+        Ok(())
+    }
+
+    /// The file as it was, the lists as expected, the bytes around them as they were.
+    fn lent(&self, input: &Input, lists: &[Vec<u8>]) -> Compared<()> {
+        let file = match input {
+            Input::Complete(i) => i.file,
+            Input::Query(i) => i.file,
+            Input::Check(i) => i.file,
+        };
+        if self.file.now() != file || !self.file.guarded() {
+            return Err(self.failure(input, "the file or a byte beside it was changed".into()));
+        }
+        for (i, expected) in lists.iter().enumerate() {
+            let now = self.lists[i].now();
+            if now != expected {
+                let at = (0..now.len()).find(|&at| now[at] != expected[at]).unwrap_or(0);
+                let difference = format!("list {i}, byte {at}: {:02x}, expected {:02x}", now[at], expected[at]);
+                return Err(self.failure(input, difference));
+            }
+            if !self.lists[i].guarded() {
+                return Err(self.failure(input, format!("a byte beside list {i} was changed")));
+            }
+        }
+        Ok(())
+    }
+
+    pub fn failure(&self, input: &Input, what: String) -> Failure {
+        Failure(format!("{} ({}): {what}\nrepeat with: --replay {input}", input.call().name(), self.kind))
+    }
+}
+
+/// The second implementation's proof.
+pub fn own_proof(known: &Known, q: Question) -> Vec<Step> {
+    let Members::Levels(levels) = &*known.members(q.minute) else { unreachable!("a proof was expected") };
+    querying::proof(&RIGHT, known.read.as_ref().unwrap(), q.minute, levels, q.membership())
+}
+
+/// A reply in words.
+fn shown(input: &Input, reply: u64) -> String {
+    match (reply >> 32, input.call()) {
+        (0, Call::Query) => format!("{reply} (steps {}, level {})", reply % 65_536, reply / 65_536),
+        (0, _) => format!("{reply}"),
+        (number, _) => format!("{reply} (refusal {number}, place {})", reply % 4_294_967_296),
+    }
+}

@@ -1,0 +1,144 @@
+//! Files of all sizes and shapes that are within the limits or just beyond one.
+
+use super::faults::damaged_calls;
+use crate::explore::*;
+use crate::extremes::*;
+use crate::files::*;
+use crate::judge::{Compared, Comparison};
+use crate::proofs;
+use crate::random::Random;
+use crate::reference::known::Question;
+use crate::reference::meaning::Members;
+use crate::reference::MOST;
+
+pub fn small(c: &mut Comparison, random: &mut Random, count: usize) -> Compared<()> {
+    for _ in 0..count {
+        let file = dense(random, &SMALL).bytes();
+        let known = c.known(&file);
+        complete_all(c, random, &file, &known)?;
+        query_some(c, random, &file, &known, 12, 4)?;
+    }
+    Ok(())
+}
+
+pub fn joint_small(c: &mut Comparison, random: &mut Random, count: usize) -> Compared<()> {
+    for _ in 0..count {
+        let file = dense(random, &SMALL).bytes();
+        let known = c.known(&file);
+        let fits = known.table().map_or(0, |table| table.len());
+        let length = random.choose(&[fits, fits + 1, MOST]).clamp(1, MOST);
+        joint(c, random, &file, &known, length)?;
+    }
+    Ok(())
+}
+
+pub fn periods(c: &mut Comparison, random: &mut Random, count: usize) -> Compared<()> {
+    for _ in 0..count {
+        let file = timed(random).bytes();
+        let known = c.known(&file);
+        complete_all(c, random, &file, &known)?;
+        joint(c, random, &file, &known, 16)?;
+    }
+    Ok(())
+}
+
+pub fn medium(c: &mut Comparison, random: &mut Random, count: usize) -> Compared<()> {
+    for i in 0..count {
+        let draft = if i % 2 == 0 {
+            dense(random, &MIDDLE)
+        } else {
+            let many = random.within(2, 20);
+            let ends = ends(random, many);
+            let (entities, credentials) = (random.within(4, 12) as u32, random.within(20, 80));
+            layered(random, entities, 8, credentials, &ends)
+        };
+        let file = draft.bytes();
+        let known = c.known(&file);
+        complete_all(c, random, &file, &known)?;
+        query_some(c, random, &file, &known, 40, 2)?;
+    }
+    Ok(())
+}
+
+pub fn many_ends(c: &mut Comparison, random: &mut Random, count: usize) -> Compared<()> {
+    for i in 0..count {
+        let ends = [63, 64, 65][i % 3];
+        let file = with_ends(random, ends).bytes();
+        let known = c.known(&file);
+        assert!(known.read.as_ref().map_or(65, |file| file.ends().len()) == ends);
+        complete_all(c, random, &file, &known)?;
+        query_some(c, random, &file, &known, 60, 1)?;
+        if known.read.is_err() {
+            damaged_calls(c, random, &file, &known)?;
+        }
+    }
+    Ok(())
+}
+
+pub fn full(c: &mut Comparison, random: &mut Random, count: usize) -> Compared<()> {
+    for i in 0..count {
+        let draft = match i % 6 {
+            0 | 1 => staggered(random),
+            2 => wide(random),
+            _ => {
+                let many = random.within(30, 64);
+                let ends = ends(random, many);
+                let entities = random.within(12, 32) as u32;
+                layered(random, entities, 32, 256, &ends)
+            }
+        };
+        let file = draft.bytes();
+        let known = c.known(&file);
+        complete_all(c, random, &file, &known)?;
+        query_some(c, random, &file, &known, 60, 2)?;
+    }
+    Ok(())
+}
+
+pub fn deep(c: &mut Comparison, random: &mut Random, count: usize) -> Compared<()> {
+    for i in 0..count {
+        let draft = match i % 4 {
+            0 => ring(random, 32, 31),
+            1 => chain(random, 255),
+            _ => {
+                let sets = random.within(12, 31) as u32;
+                ring(random, sets, 29)
+            }
+        };
+        let file = draft.bytes();
+        let known = c.known(&file);
+        complete_all(c, random, &file, &known)?;
+        let Members::Levels(levels) = &*known.members(0) else { continue };
+        let mut by_level: Vec<(usize, (u32, u32))> = levels.iter().map(|(&m, &level)| (level, m)).collect();
+        by_level.sort();
+        // The deepest, and some others.
+        for i in 0..6 {
+            let (_, (role, set)) = by_level[if i == 0 { by_level.len() - 1 } else { random.below(by_level.len()) }];
+            let question = Question { role, set, minute: random.choose(&[0, 1, u32::MAX - 1]) };
+            let length = random.choose(&[levels.len(), MOST]);
+            let Some(proof) = c.query(&known, queried(&file, question, length, random.next()))? else { continue };
+            handed_out(c, &file, &known, question, &proof, length, random.next())?;
+            let read = known.read.as_ref().unwrap();
+            for _ in 0..10 {
+                let steps = proofs::some_word(random, read, &proof.steps);
+                steps_checked(c, random, &file, &known, question, &steps)?;
+            }
+        }
+    }
+    Ok(())
+}
+
+pub fn limit(c: &mut Comparison, random: &mut Random, count: usize) -> Compared<()> {
+    for i in 0..count {
+        let total = [1024, 1025, 1023][i % 3];
+        let widest = if i < 6 { 10 } else { random.within(6, 9) };
+        let file = with_memberships(random, total, widest).bytes();
+        let known = c.known(&file);
+        assert!(known.table().map_or(1025, |table| table.len()) == total);
+        for length in [1022, 1023, 1024, 1025] {
+            c.complete(&known, completed(&file, length, random.next()))?;
+        }
+        query_some(c, random, &file, &known, 8, 2)?;
+    }
+    Ok(())
+}

@@ -1,0 +1,49 @@
+//! The kinds of inputs, each with how many of them a run compares.
+
+mod faults;
+mod general;
+mod proofs;
+mod tiny;
+
+use crate::cases;
+use crate::judge::{Compared, Comparison};
+use crate::random::Random;
+
+pub struct Kind {
+    pub name: &'static str,
+    pub what: &'static str,
+    /// How many a run compares if not told otherwise; of exhaustive kinds, how many in a thousand.
+    pub count: usize,
+    pub exhaustive: bool,
+    pub run: Run,
+}
+
+type Run = fn(&mut Comparison, &mut Random, usize) -> Compared<()>;
+
+const fn kind(name: &'static str, count: usize, run: Run, what: &'static str) -> Kind {
+    Kind { name, what, count, exhaustive: false, run }
+}
+
+const fn every(name: &'static str, run: Run, what: &'static str) -> Kind {
+    Kind { name, what, count: 1000, exhaustive: true, run }
+}
+
+pub const KINDS: &[Kind] = &[
+    kind("cases", 1, cases::run, "document 01's set P and K1 to K11, with the results it gives"),
+    kind("small", 8000, general::small, "small dense files, proofs and changed proofs"),
+    kind("joint", 600, general::joint_small, "small files: every role, set and minute at, before and after each end"),
+    kind("periods", 600, general::periods, "the same with periods that touch, overlap, start at 0 and end at 4,294,967,295"),
+    kind("damaged", 9, faults::damaged, "every two faults at once, with faults of the lists and the question"),
+    kind("questions", 40, faults::questions, "questions within and beyond a file's numbers, with other faults"),
+    kind("bytes", 30000, faults::random_bytes, "random bytes"),
+    kind("lists", 12, faults::lists, "lists of all lengths, equal or not, whole entries or not"),
+    kind("broken", 800, proofs::broken, "each word of a proof changed, steps removed, exchanged, added, repeated"),
+    kind("counts", 600, proofs::counts, "step counts at the limits and beyond 32 bits"),
+    kind("ends", 90, general::many_ends, "63, 64 and 65 ends"),
+    kind("medium", 400, general::medium, "files of tens of credentials"),
+    kind("deep", 20, general::deep, "levels several hundred deep"),
+    kind("full", 30, general::full, "256 credentials"),
+    kind("limit", 36, general::limit, "1,023, 1,024 and 1,025 memberships"),
+    every("tiny", tiny::tiny, "every file of two or three credentials within small numbers"),
+    every("steps", tiny::tiny_proofs, "every list of one or two steps for files of two credentials"),
+];

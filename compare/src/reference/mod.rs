@@ -1,0 +1,68 @@
+//! A second implementation of document 01's three calls, written from documents 01 and 003 and not from the library.
+//! It is as slow and as plain as it can be: every minute's memberships are Definition 3's sequence from nothing.
+
+pub mod checking;
+pub mod completing;
+pub mod known;
+pub mod meaning;
+pub mod querying;
+pub mod reading;
+
+/// The parts of the rules that a wrong variant may replace.
+#[derive(Clone, Copy)]
+pub struct Rules {
+    /// Whether the period from..to covers the minute.
+    pub covers: fn(from: u32, to: u32, minute: u32) -> bool,
+    /// The entity C for which a set is {C}.
+    pub links: fn(set: u32) -> Option<u32>,
+    /// What the kinds 3, 4 and 5 give from X in b.s and Y in c.t.
+    pub combines: fn(kind: u8, x: u32, y: u32) -> Option<u32>,
+    /// How many members of the sequence are computed at most.
+    pub rounds: usize,
+}
+
+pub const RIGHT: Rules = Rules { covers, links, combines, rounds: usize::MAX };
+
+fn covers(from: u32, to: u32, minute: u32) -> bool {
+    from <= minute && minute < to
+}
+
+fn links(set: u32) -> Option<u32> {
+    (0..32).find(|&entity| set == 1 << entity)
+}
+
+fn combines(kind: u8, x: u32, y: u32) -> Option<u32> {
+    match kind {
+        3 => (x == y).then_some(x),
+        4 => Some(x | y),
+        _ => (x & y == 0).then_some(x | y),
+    }
+}
+
+/// Role issuer.name as a number.
+pub fn role(issuer: u32, name: u32) -> u32 {
+    issuer * 32 + name
+}
+
+/// A role and one of its sets.
+pub type Membership = (u32, u32);
+
+#[derive(Clone, Copy, PartialEq, Eq, Debug)]
+pub struct Refusal {
+    pub number: u32,
+    pub place: u32,
+}
+
+pub fn refuse<T>(number: u32) -> Result<T, Refusal> {
+    Err(Refusal { number, place: 0 })
+}
+
+impl Refusal {
+    /// The refusal as the 64-bit reply of the C interface.
+    pub fn reply(self) -> u64 {
+        self.number as u64 * 4_294_967_296 + self.place as u64
+    }
+}
+
+/// Length of the longest list that may be lent.
+pub const MOST: usize = 1024;

@@ -1,0 +1,109 @@
+//! Document 01, "The credentials file": bytes to credentials, or the first of the refusals 1 to 8.
+
+use super::{refuse, role, Refusal};
+use std::collections::BTreeSet;
+
+#[derive(Clone, Copy, PartialEq, Eq, Debug)]
+pub enum Body {
+    /// b
+    Entity(u32),
+    /// b.s
+    Role(u32),
+    /// b.s.t
+    Linked(u32, u32),
+    /// kind 3, 4 or 5 over b.s and c.t
+    Pair(u8, u32, u32),
+}
+
+#[derive(Clone, Copy, PartialEq, Eq, Debug)]
+pub struct Credential {
+    pub head: u32,
+    pub body: Body,
+    pub from: u32,
+    pub to: u32,
+}
+
+#[derive(Clone, PartialEq, Eq, Debug)]
+pub struct File {
+    pub entities: u32,
+    pub names: u32,
+    pub credentials: Vec<Credential>,
+}
+
+impl File {
+    /// The distinct from and to values, ascending.
+    pub fn ends(&self) -> Vec<u32> {
+        let ends: BTreeSet<u32> = self.credentials.iter().flat_map(|c| [c.from, c.to]).collect();
+        ends.into_iter().collect()
+    }
+}
+
+pub fn read(bytes: &[u8]) -> Result<File, Refusal> {
+    if bytes.len() < 6 {
+        return refuse(1);
+    }
+    let size = |at: usize| bytes[at] as usize + 256 * bytes[at + 1] as usize;
+    let (entities, names, count) = (size(0), size(2), size(4));
+    if entities < 1 || entities > 32 || names < 1 || names > 32 || count > 256 {
+        return refuse(2);
+    }
+    if bytes.len() != 6 + 16 * count {
+        return refuse(3);
+    }
+    let mut file = File { entities: entities as u32, names: names as u32, credentials: Vec::new() };
+    for place in 0..count {
+        let statement = &bytes[6 + 8 * place..][..8];
+        let period = &bytes[6 + 8 * count + 8 * place..][..8];
+        match credential(statement, period, file.entities, file.names) {
+            Ok(credential) => file.credentials.push(credential),
+            Err(number) => return Err(Refusal { number, place: place as u32 }),
+        }
+    }
+    if file.ends().len() > 64 {
+        return refuse(8);
+    }
+    Ok(file)
+}
+
+/// Which of b, s, c, t a kind uses.
+pub fn uses(kind: u8) -> [bool; 4] {
+    match kind {
+        0 => [true, false, false, false],
+        1 => [true, true, false, false],
+        2 => [true, true, false, true],
+        _ => [true, true, true, true],
+    }
+}
+
+/// One credential, or the number of its first refusal.
+fn credential(statement: &[u8], period: &[u8], entities: u32, names: u32) -> Result<Credential, u32> {
+    let kind = statement[0];
+    if kind > 5 {
+        return Err(4);
+    }
+    let [issuer, name, b, s, c, t] = [1, 2, 3, 4, 5, 6].map(|at| statement[at] as u32);
+    let used = uses(kind);
+    let parts = [(used[0], b, entities), (used[1], s, names), (used[2], c, entities), (used[3], t, names)];
+    if issuer >= entities || name >= names || parts.iter().any(|&(used, part, limit)| used && part >= limit) {
+        return Err(5);
+    }
+    if parts.iter().any(|&(used, part, _)| !used && part != 0) || statement[7] != 0 {
+        return Err(6);
+    }
+    let (from, to) = (word(period, 0), word(period, 1));
+    if from >= to {
+        return Err(7);
+    }
+    let body = match kind {
+        0 => Body::Entity(b),
+        1 => Body::Role(role(b, s)),
+        2 => Body::Linked(role(b, s), t),
+        _ => Body::Pair(kind, role(b, s), role(c, t)),
+    };
+    Ok(Credential { head: role(issuer, name), body, from, to })
+}
+
+/// The 32-bit number at a position counted in numbers, lowest byte first.
+pub fn word(bytes: &[u8], position: usize) -> u32 {
+    (0..4).map(|i| (bytes[4 * position + i] as u32) << (8 * i)).sum()
+}

@@ -1,0 +1,125 @@
+//! Wrong variants of the second implementation, to show that the comparison can fail.
+
+mod checking;
+mod completing;
+mod querying;
+
+use crate::calls::{Call, Calls, Second, Slice};
+use crate::reference::known::Question;
+use crate::reference::reading::{read, File};
+use crate::reference::{Rules, RIGHT};
+
+type Completing = fn(&Second, Slice, [Slice; 3]) -> u64;
+type Querying = fn(&Second, Slice, Question, [Slice; 4]) -> u64;
+type Checking = fn(&Second, Slice, Question, [Slice; 4], u64) -> u64;
+
+/// The second implementation with other rules, or with another call around one of its calls.
+#[derive(Clone, Copy)]
+pub struct Wrong {
+    pub name: &'static str,
+    pub what: &'static str,
+    rules: Rules,
+    complete: Completing,
+    query: Querying,
+    check: Checking,
+}
+
+impl Calls for Wrong {
+    fn has(&self, _: Call) -> bool {
+        true
+    }
+
+    fn complete(&self, file: Slice, lists: [Slice; 3]) -> u64 {
+        (self.complete)(&Second { rules: self.rules }, file, lists)
+    }
+
+    fn query(&self, file: Slice, q: Question, lists: [Slice; 4]) -> u64 {
+        (self.query)(&Second { rules: self.rules }, file, q, lists)
+    }
+
+    fn check(&self, file: Slice, q: Question, lists: [Slice; 4], count: u64) -> u64 {
+        (self.check)(&Second { rules: self.rules }, file, q, lists, count)
+    }
+}
+
+const NOT_WRONG: Wrong = Wrong { name: "", what: "", rules: RIGHT, complete: Second::complete, query: Second::query, check: Second::check };
+
+const fn rules(name: &'static str, rules: Rules, what: &'static str) -> Wrong {
+    Wrong { name, what, rules, ..NOT_WRONG }
+}
+
+const fn complete(name: &'static str, complete: Completing, what: &'static str) -> Wrong {
+    Wrong { name, what, complete, ..NOT_WRONG }
+}
+
+const fn query(name: &'static str, query: Querying, what: &'static str) -> Wrong {
+    Wrong { name, what, query, ..NOT_WRONG }
+}
+
+const fn check(name: &'static str, check: Checking, what: &'static str) -> Wrong {
+    Wrong { name, what, check, ..NOT_WRONG }
+}
+
+/// Document 01's kinds, of which a variant changes one.
+fn right(kind: u8, x: u32, y: u32) -> Option<u32> {
+    (RIGHT.combines)(kind, x, y)
+}
+
+fn different(kind: u8, x: u32, y: u32) -> Option<u32> {
+    if kind == 5 {
+        (x != y).then_some(x | y)
+    } else {
+        right(kind, x, y)
+    }
+}
+
+const RULES: &[Wrong] = &[
+    rules("different-for-disjoint", Rules { combines: different, ..RIGHT }, "⊗ as X ≠ Y"),
+    rules("union-for-disjoint", Rules { combines: |k, x, y| if k == 5 { Some(x | y) } else { right(k, x, y) }, ..RIGHT }, "⊙ for ⊗"),
+    rules(
+        "no-union-with-itself",
+        Rules { combines: |k, x, y| if k == 4 && x == y { None } else { right(k, x, y) }, ..RIGHT },
+        "⊙ of different sets only",
+    ),
+    rules("second-set-ignored", Rules { combines: |k, x, y| if k == 3 { Some(x) } else { right(k, x, y) }, ..RIGHT }, "∩ of sets that differ"),
+    rules("no-intersection", Rules { combines: |k, x, y| if k == 3 { None } else { right(k, x, y) }, ..RIGHT }, "∩ gives nothing"),
+    rules("link-through-two", Rules { links: |set| (0..32).find(|e| set >> e & 1 == 1), ..RIGHT }, "links through the lowest entity of any set"),
+    rules("no-link", Rules { links: |_| None, ..RIGHT }, "links give nothing"),
+    rules("to-covered", Rules { covers: |from, to, minute| from <= minute && minute <= to, ..RIGHT }, "minute `to` covered"),
+    rules("from-not-covered", Rules { covers: |from, to, minute| from < minute && minute < to, ..RIGHT }, "minute `from` not covered"),
+    rules("few-rounds", Rules { rounds: 6, ..RIGHT }, "stops after six rounds"),
+];
+
+/// Every wrong variant.
+pub fn all() -> Vec<Wrong> {
+    [RULES, completing::ALL, querying::ALL, checking::ALL].concat()
+}
+
+fn number(reply: u64) -> u64 {
+    reply >> 32
+}
+
+/// The reply changed where its refusal number is one of these, 0 for success.
+fn on(reply: u64, numbers: &[u64], change: fn(u64) -> u64) -> u64 {
+    if numbers.contains(&number(reply)) {
+        change(reply)
+    } else {
+        reply
+    }
+}
+
+fn refusal(number: u64) -> u64 {
+    number << 32
+}
+
+fn accepted(file: Slice) -> Option<File> {
+    read(&file.all()).ok()
+}
+
+/// The call, then the lists as they were before it.
+fn unwritten<const N: usize>(lists: [Slice; N], call: impl FnOnce() -> u64) -> u64 {
+    let before = lists.map(Slice::all);
+    let reply = call();
+    lists.iter().zip(before).for_each(|(list, bytes)| list.write(&bytes));
+    reply
+}

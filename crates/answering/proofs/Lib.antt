@@ -1,0 +1,4 @@
+pub mod Marking
+pub mod Numbering
+pub mod Writing
+pub mod Handing

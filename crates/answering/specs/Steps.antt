@@ -1,0 +1,57 @@
+-- The marked entries as proof steps: their numbers, their words, and the lists that hold them.
+use mathlib.Core.Path.{_≡_}
+use mathlib.Core.Bool.{Bool}
+use mathlib.Core.List.{List, [], _∷_, _++_, map}
+use Prim.Native.Nat.{ℕ, zero, suc, _+_, _-_}
+use lib.Dec.{ltb}
+use lib.ListN.{length, getD, set, take, replicate}
+use Rattle.meaning.specs.Lists.{if, only}
+use Rattle.meaning.specs.Proofs.{Step}
+use Rattle.store.specs.Entries.{setIn}
+use Rattle.derivation.specs.Derivation.{word}
+
+-- the marked entries below i
+abbrev pub kept : List ℕ → ℕ → List ℕ
+kept marks zero = []
+kept marks (suc i) = kept marks i ++ only (ltb 0 (getD marks i 0)) (i ∷ [])
+
+-- the number of a marked entry's step: as many steps are before it
+abbrev pub number : List ℕ → ℕ → ℕ
+number marks i = length (kept marks i)
+
+-- the number of the step of the entry that a word cites, 0 where it cites none; and by a list of numbers
+abbrev pub citedStep : List ℕ → ℕ → ℕ
+citedStep marks w = if (ltb 0 w) (number marks (w - 1)) 0
+
+abbrev pub citedIn : List ℕ → ℕ → ℕ
+citedIn numbers w = if (ltb 0 w) (getD numbers (w - 1) 0) 0
+
+-- entry i as a step
+abbrev pub stepFrom : List ℕ → List ℕ → List ℕ → ℕ → Step
+stepFrom keys notes marks i =
+    record { credential = word notes i 0; first = citedStep marks (word notes i 1); second = citedStep marks (word notes i 2); set = setIn (getD keys i 0) }
+
+-- the steps of the marked entries below i
+unfoldable pub stepsBelow : List ℕ → List ℕ → List ℕ → ℕ → List Step
+stepsBelow keys notes marks i = map (stepFrom keys notes marks) (kept marks i)
+
+-- the first k places of four lists hold the steps
+pub record Held (ss : List Step) (credential first second sets : List ℕ) (k : ℕ) : Type 0 where
+  pub size : k ≡ length ss
+  pub byCredential : take k credential ≡ map (λ (s : Step). s .credential) ss
+  pub byFirst : take k first ≡ map (λ (s : Step). s .first) ss
+  pub bySecond : take k second ≡ map (λ (s : Step). s .second) ss
+  pub bySet : take k sets ≡ map (λ (s : Step). s .set) ss
+
+-- what one turn leaves: where `b`, entry i as step k, with k as its number; otherwise all as before
+pub record Turn (b : Bool) (keys notes : List ℕ) (i k : ℕ) (numbers credential first second sets numbers′ credential′ first′ second′ sets′ : List ℕ) (r : ℕ) : Type 0 where
+  pub count : r ≡ if b (k + 1) k
+  pub numbered : numbers′ ≡ if b (set numbers i k) numbers
+  pub byCredential : credential′ ≡ if b (set credential k (word notes i 0)) credential
+  pub byFirst : first′ ≡ if b (set first k (citedIn numbers (word notes i 1))) first
+  pub bySecond : second′ ≡ if b (set second k (citedIn numbers (word notes i 2))) second
+  pub bySet : sets′ ≡ if b (set sets k (setIn (getD keys i 0))) sets
+
+-- the first k places of a list, and zeros after them
+abbrev pub upTo : ℕ → List ℕ → List ℕ
+upTo k l = take k l ++ replicate (length l - k) 0

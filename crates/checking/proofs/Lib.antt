@@ -1,0 +1,8 @@
+pub mod Counting
+pub mod Bodies
+pub mod Citing
+pub mod Walks
+pub mod Answers
+pub mod Passing
+pub mod Parts
+pub mod Claims

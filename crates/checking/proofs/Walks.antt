@@ -1,0 +1,93 @@
+-- The steps of a proof, one after another.
+use mathlib.Core.Path.{_≡_, refl, sym, ap, ap₂, _∙_}
+use mathlib.Core.Bool.{true, false, _&&_}
+use mathlib.Core.List.{List, [], _∷_, _++_, map}
+use Prim.Native.Nat.{ℕ, suc, _+_, _<_, _≤_}
+use native.Mathlib.Nat.{not-suc-le-zero}
+use native.Mathlib.Numerals.{add-one}
+use native.Mathlib.Omega.{arith}
+use borrow.Author.Count.{below-more}
+use lib.Dec.{ltb}
+use lib.ListN.{length, getD, set, length-set}
+use lib.Seq.{getD-set-same, getD-set-other}
+use Rattle.meaning.specs.Lists.{below}
+use Rattle.meaning.specs.Credentials.{Credential, credentialAt}
+use Rattle.meaning.specs.Proofs.{Step, Shown, keeps, showing, shownBy}
+use Rattle.meaning.proofs.Proofs.{shown-append}
+use Rattle.file.specs.Format.{credentials}
+use Rattle.asking.specs.Asking.{StepLists, stepIn, stepsIn}
+use Rattle.checking.specs.Checking.{stepHolds}
+use Rattle.checking.specs.Steps.{shownAt, shownIn, Known, Judges, Walkable, Walking, Walked}
+use Rattle.checking.specs.declared.Judged.{Judged}
+use Rattle.checking.proofs.Counting.{length-counted, counted-snoc, counted-same}
+
+module _ (cs : List Credential) (t : StepLists) where
+  -- the credential of step i
+  abbrev pub creditedAt : ℕ → Credential
+  creditedAt i = credentialAt cs (stepIn t i .credential)
+
+  -- what one more step shows
+  pub shown-next : (n : ℕ) → shownBy cs [] (stepsIn t (suc n)) ≡ shownBy cs [] (stepsIn t n) ++ showing (creditedAt n) (shownBy cs [] (stepsIn t n)) (stepIn t n) ∷ []
+  shown-next n = ap (λ (ss : List Step). shownBy cs [] ss) (counted-snoc (stepIn t) n) ∙ shown-append cs (stepsIn t n) (stepIn t n ∷ []) []
+
+-- a store at i leaves what the steps before i show
+module _ (roles sets levels : List ℕ) (i r l : ℕ) where
+  abbrev stored : ℕ → Shown
+  stored = shownAt (set roles i r) sets (set levels i l)
+
+  store-old : map stored (below i) ≡ shownIn roles sets levels i
+  store-old =
+      counted-same stored (shownAt roles sets levels) i
+      (λ j h. ap₂ {C = Shown} (λ (x y : ℕ). record { role = x; set = getD sets j 0; level = y })
+      (getD-set-other roles i j r 0 (λ e. omega arith)) (getD-set-other levels i j l 0 (λ e. omega arith)))
+
+  store-last : i < length roles → i < length levels → stored i ≡ record { role = r; set = getD sets i 0; level = l }
+  store-last h k =
+      ap₂ {C = Shown} (λ (x y : ℕ). record { role = x; set = getD sets i 0; level = y }) (getD-set-same roles i r 0 h) (getD-set-same levels i l 0 k)
+
+module _ (f : List ℕ) (m : ℕ) (t : StepLists) where
+  abbrev cs : List Credential
+  cs = credentials f
+
+  pub walking-none : {n : ℕ} {roles levels : List ℕ} → Walkable f t n roles levels → Walking f m t roles levels 0
+  walking-none k = record { rooms = k .rooms; kept = λ j h. absurd (not-suc-le-zero h); shown = refl; low = λ j h. absurd (not-suc-le-zero h) }
+
+  pub known : {n i : ℕ} {roles₀ levels₀ roles levels : List ℕ} → Walkable f t n roles₀ levels₀ → i < n → Walking f m t roles levels i → Known roles (t .sets) levels i
+  known k h w = let s = k .sets in let e = k .few in let r = w .rooms in record { long = (omega arith, omega arith, omega arith); few = omega arith; low = w .low }
+
+  module _ {roles levels : List ℕ} {i : ℕ} (w : Walking f m t roles levels i) {x : Judged} (j : Judges cs m (shownIn roles (t .sets) levels i) (stepIn t i) x) where
+    tested : stepHolds cs m (stepsIn t i) (stepIn t i) ≡ x .holds
+    tested = sym (j .holds ∙ ap (λ (b : List Shown). ltb (stepIn t i .credential) (length cs) && keeps m (creditedAt cs t i) b (stepIn t i)) (w .shown))
+
+    -- a step that breaks the rules
+    pub walk-stops : {n : ℕ} → i < n → x .holds ≡ false → Walked f m t n roles levels i
+    walk-stops h e = record { within = omega arith; walking = w; stops = λ _. tested ∙ e }
+
+    -- a step that keeps them
+    module _ (h : i < 1024) (e : x .holds ≡ true) where
+      abbrev new : ℕ → Shown
+      new = shownAt (set roles i (x .role)) (t .sets) (set levels i (x .level))
+
+      shown-more : map new (below (i + 1)) ≡ shownBy cs [] (stepsIn t (i + 1))
+      shown-more =
+          let r = w .rooms in
+          ap (λ (n : ℕ). map new (below n)) (add-one i) ∙ counted-snoc new i
+          ∙ ap₂ (λ (l : List Shown) (y : Shown). l ++ y ∷ []) (store-old roles (t .sets) levels i (x .role) (x .level) ∙ w .shown)
+          (store-last roles (t .sets) levels i (x .role) (x .level) (omega arith) (omega arith) ∙ j .shows e ∙ ap (λ (b : List Shown). showing (creditedAt cs t i) b (stepIn t i)) (w .shown))
+          ∙ sym (shown-next cs t i) ∙ ap (λ (n : ℕ). shownBy cs [] (stepsIn t n)) (sym (add-one i))
+
+      pub walk-goes-on : Walking f m t (set roles i (x .role)) (set levels i (x .level)) (i + 1)
+      walk-goes-on =
+          let r = w .rooms in
+          let n = length-counted (shownAt roles (t .sets) levels) i in
+          record {
+            rooms = (length-set roles i (x .role) ∙ r .0, length-set levels i (x .level) ∙ r .1);
+            kept = below-more (λ (k : ℕ). stepHolds cs m (stepsIn t k) (stepIn t k) ≡ true) i (w .kept) (tested ∙ e);
+            shown = shown-more;
+            low = below-more (λ (k : ℕ). getD (set levels i (x .level)) k 0 ≤ i + 1) i
+                (λ k l. omega (arith, w .low k l, getD-set-other levels i k (x .level) 0 (λ q. omega arith)))
+                (omega (arith, j .low, getD-set-same levels i (x .level) 0 (omega arith)));
+          }
+
+  pub walk-ends : {n : ℕ} {roles levels : List ℕ} {i : ℕ} → n ≤ i → i ≤ n → Walking f m t roles levels i → Walked f m t n roles levels i
+  walk-ends h k w = record { within = k; walking = w; stops = λ l. absurd (omega arith) }

@@ -1,0 +1,44 @@
+-- Checking a proof (document 01): the level, or a refusal of 1 to 9, 11, 12 and 14 to 16.
+use mathlib.Core.Bool.{Bool, _&&_, not}
+use mathlib.Core.List.{List, [], _∷_, _++_, map}
+use Prim.Native.Nat.{ℕ, _-_}
+use lib.Dec.{eqb, ltb}
+use lib.ListN.{length, getD}
+use Rattle.meaning.specs.Lists.{below}
+use Rattle.meaning.specs.Credentials.{Credential, credentialAt}
+use Rattle.meaning.specs.Proofs.{Step, Shown, nothing, keeps, shownBy}
+use Rattle.file.specs.Refusals.{Row, Outcome, done, refused, first, _when_, _at_when_}
+use Rattle.file.specs.Format.{credentials}
+use Rattle.file.specs.Reading.{between}
+use Rattle.asking.specs.Asking.{Request, StepLists, stepIn, stepsIn, size, asking}
+use Rattle.checking.specs.declared.Checked.{Checked}
+use Rattle.checking.specs.declared.Checked.the-variants as C
+
+-- the step names a credential of the file and keeps the rules for a proof step, after the steps before it
+abbrev pub stepHolds : List Credential → ℕ → List Step → Step → Bool
+stepHolds cs m before s = ltb (s .credential) (length cs) && keeps m (credentialAt cs (s .credential)) (shownBy cs [] before) s
+
+-- 15, for the first step that does not
+abbrev pub stepRow : List ℕ → ℕ → StepLists → ℕ → Row
+stepRow f m t i = 15 at i when (not (stepHolds (credentials f) m (stepsIn t i) (stepIn t i)))
+
+-- what the last of n steps shows
+abbrev pub lastShown : List ℕ → StepLists → ℕ → Shown
+lastShown f t n = getD (shownBy (credentials f) [] (stepsIn t n)) (n - 1) nothing
+
+-- 16: the last step isn't the queried membership
+abbrev pub lastRow : List ℕ → Request → StepLists → ℕ → Row
+lastRow f q t n = 16 when (not (eqb (lastShown f t n .role) (q .role) && eqb (lastShown f t n .set) (q .set)))
+
+-- 14 to 16; 14: step count outside 1 to L
+abbrev pub proofRows : List ℕ → Request → StepLists → ℕ → List Row
+proofRows f q t n = 14 when (not (between 1 (size t) n)) ∷ (map (stepRow f (q .minute) t) (below n) ++ lastRow f q t n ∷ [])
+
+-- the level of the proof, which is its last step's
+unfoldable pub checking : List ℕ → Request → StepLists → ℕ → Outcome ℕ
+checking f q t n = first (asking f q t ++ proofRows f q t n) (lastShown f t n .level)
+
+-- document 01's number and values for each case of the answer
+abbrev pub says : Checked → Outcome ℕ
+says (C.Level k) = done k
+says (C.Refused n p) = refused n p

@@ -1,0 +1,23 @@
+-- A loop along the list of a family.
+use mathlib.Core.Path.{_≡_}
+use mathlib.Core.List.{List}
+use Prim.Native.Nat.{ℕ, _-_, _≤_, _<_}
+use Rattle.heads.specs.Gaining.{Spanned, Gains}
+
+-- place c of a list: 0, or one more than an item of the family r
+abbrev pub On : (ℕ → ℕ) → ℕ → ℕ → ℕ → Type 0
+On family r n c = (c ≡ 0 → ⊥) → (c - 1 < n) × (family (c - 1) ≡ r)
+
+-- what the items of the family r give, of those from place c on
+pub record From (family : ℕ → ℕ) (r n c : ℕ) (Gives : ℕ → Spanned) (k s : ℕ) : Type 0 where
+  pub item : ℕ
+  pub past : c ≤ item
+  pub low : item < n
+  pub of : family item ≡ r
+  pub gives : Gives item k s
+
+-- a loop at place c of the list of a family: what the items passed give was added
+pub record Along (limit : ℕ) (keys spans : List ℕ) (n : ℕ) (family : ℕ → ℕ) (f count : ℕ) (Gives : ℕ → Spanned) (keys′ spans′ slots′ links′ : List ℕ) (r c : ℕ) : Type 0 where
+  pub few : r ≤ limit
+  pub gains : Gains limit keys spans n (From family f count c Gives) keys′ spans′ slots′ links′ r
+  pub on : On family f count c

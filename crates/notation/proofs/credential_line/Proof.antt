@@ -1,0 +1,40 @@
+-- `credential_line` writes the position, the statement and the period.
+use native.Mathlib.Omega.{arith}
+use Rattle.text.proofs.Putting.{_then_, lined}
+use borrow.Author.Needs.{needs}
+use Rattle.notation.proofs.credential_line.Statement.{statement}
+use Rattle.notation.proofs.credential_line.Tie as tie
+
+put-label-requires : tie.Need-put-label-requires
+put-label-requires c κs = search needs
+
+put-statement-requires : tie.Need-put-statement-requires
+put-statement-requires c κs = search needs
+
+slice-aggregate-put-bytes : tie.Need-slice-aggregate-put-bytes
+slice-aggregate-put-bytes c = search needs
+
+put-bytes-requires : tie.Need-put-bytes-requires
+put-bytes-requires c κs = search needs
+
+put-period-requires : tie.Need-put-period-requires
+put-period-requires c κs = search needs
+
+returns : tie.Need-returns
+returns c =
+    let e₁ = c .before .before .before .before .before .before .before .put-label .ensures in
+    let e₂ = c .before .before .before .before .before .put-statement .ensures in
+    let e₃ = c .before .before .put-bytes .ensures in
+    let e₄ = c .put-period .ensures in
+    lined (search needs) (omega arith) (e₁ then e₂ then e₃ then e₄)
+
+pub credential-line-spec : {M : Type 1} → statement M
+credential-line-spec =
+    tie.close
+    (tie.spec
+    put-label-requires
+    put-statement-requires
+    slice-aggregate-put-bytes
+    put-bytes-requires
+    put-period-requires
+    returns)

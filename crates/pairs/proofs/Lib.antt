@@ -1,0 +1,5 @@
+pub mod Owing
+pub mod Roles
+pub mod Uniting
+pub mod Adding
+pub mod Walking

@@ -1,0 +1,6 @@
+pub mod Refusing
+pub mod Fitting
+pub mod Leaving
+pub mod Tables
+pub mod Queries
+pub mod Checks

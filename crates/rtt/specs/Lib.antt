@@ -1,0 +1,3 @@
+pub mod Interface
+pub mod Lengths
+pub mod Replies

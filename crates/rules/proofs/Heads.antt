@@ -1,0 +1,220 @@
+-- What placing a head makes of the lists and of the uses.
+use mathlib.Core.Path.{_≡_, refl, sym, ap, _∙_}
+use mathlib.Core.Logic.{_⊎_, inl, inr, _↔_}
+use mathlib.Core.List.{List}
+use Prim.Native.Nat.{ℕ, suc, _+_, _%_, _<_}
+use native.Mathlib.Nat.{le-refl}
+use native.Mathlib.Numerals.{add-one}
+use native.Mathlib.Omega.{arith}
+use lib.Bits.{bitOr}
+use lib.ListN.{getD, set, length-set}
+use lib.Seq.{getD-set-same, getD-set-other}
+use Rattle.meaning.specs.Table.{bit}
+use Rattle.meaning.proofs.Bits.{bit-or, bit-below-two}
+use Rattle.store.proofs.Chains.{last-or-below, equal-or-not, chained-same}
+use Rattle.rules.specs.Uses.{Use, headCode, familyIn, bodyIn, Listed, Uses, Fitting, UseAdded}
+use Rattle.rules.specs.Places.{linked, Widened, HeadPlaced}
+use Rattle.rules.proofs.CodeLaws.{body-in-code, head-in-code, same-use}
+use Rattle.rules.proofs.Linking.{linked-length, linked-other, linked-chained}
+use Rattle.rules.proofs.Bodies.{codeOf}
+
+-- a bit of the union is a bit of one of the two
+or-cases : (a v s : ℕ) → bit (bitOr a v) s ≡ 1 → (bit a s ≡ 1) ⊎ (bit v s ≡ 1)
+or-cases a v s e = go (equal-or-not (bit a s) 1)
+  where
+    go : (bit a s ≡ 1) ⊎ (bit a s ≡ 1 → ⊥) → (bit a s ≡ 1) ⊎ (bit v s ≡ 1)
+    go (inl q) = inl q
+    go (inr ne) = inr (omega (arith, bit-or a v s, bit-below-two a s, bit-below-two v s))
+
+or-left : (a v s : ℕ) → bit a s ≡ 1 → bit (bitOr a v) s ≡ 1
+or-left a v s e = omega (arith, bit-or a v s, bit-below-two v s)
+
+or-right : (a v s : ℕ) → bit v s ≡ 1 → bit (bitOr a v) s ≡ 1
+or-right a v s e = omega (arith, bit-or a v s, bit-below-two a s)
+
+module _ (u : Use) (fit : Fitting u) (v : ℕ) {codes valid lists : List ℕ} {b h body : ℕ} (l : Listed codes valid lists b h) (few : h < 512) (low : body < b) (coded : getD codes body 0 ≡ codeOf u) where
+  -- a use with the head's code is the one of the head
+  its-use : (w : Use) → Fitting w → (c : ℕ) → getD codes c 0 ≡ codeOf w → headCode c (w .head) ≡ headCode body (u .head) → w ≡ u
+  its-use w f c e g =
+      let p = sym (body-in-code c (w .head) (f .head)) ∙ ap bodyIn g ∙ body-in-code body (u .head) (fit .head) in
+      let q = sym (head-in-code c (w .head) (f .head)) ∙ ap (λ (x : ℕ). x % 1024) g ∙ head-in-code body (u .head) (fit .head) in
+      same-use u w fit f (sym e ∙ ap (λ (x : ℕ). getD codes x 0) p ∙ coded) q
+
+  module _ (k : ℕ) (is : k < h) (code : getD codes (512 + k) 0 ≡ headCode body (u .head)) where
+    wider : List ℕ
+    wider = set valid k (bitOr (getD valid k 0) v)
+
+    at-wider : getD wider k 0 ≡ bitOr (getD valid k 0) v
+    unfolding wider
+    at-wider = getD-set-same valid k (bitOr (getD valid k 0) v) 0 (omega arith)
+
+    beside-wider : (i : ℕ) → (i ≡ k → ⊥) → getD wider i 0 ≡ getD valid i 0
+    unfolding wider
+    beside-wider i ne = getD-set-other valid k i (bitOr (getD valid k 0) v) 0 ne
+
+    wider-exact : (w : Use) (s : ℕ) → Fitting w → Uses codes wider b h w s ↔ (Uses codes valid b h w s ⊎ ((w ≡ u) × (bit v s ≡ 1)))
+    wider-exact w s f = (λ x. from x (equal-or-not (x .head) k), to)
+      where
+        kept : (x : Uses codes wider b h w s) → bit (getD valid (x .head) 0) s ≡ 1 → Uses codes valid b h w s
+        kept x e = record { body = x .body; head = x .head; low = x .low; bodyCoded = x .bodyCoded; headCoded = x .headCoded; spans = e }
+
+        from : (x : Uses codes wider b h w s) → (x .head ≡ k) ⊎ (x .head ≡ k → ⊥) → Uses codes valid b h w s ⊎ ((w ≡ u) × (bit v s ≡ 1))
+        from x (inr ne) = inl (kept x (rw (beside-wider (x .head) ne) at (x .spans)))
+        from x (inl e) = split (or-cases (getD valid k 0) v s (sym (ap (λ (y : ℕ). bit y s) (ap (λ (y : ℕ). getD wider y 0) e ∙ at-wider)) ∙ x .spans))
+          where
+            split : (bit (getD valid k 0) s ≡ 1) ⊎ (bit v s ≡ 1) → Uses codes valid b h w s ⊎ ((w ≡ u) × (bit v s ≡ 1))
+            split (inl q) = inl (kept x (ap (λ (y : ℕ). bit (getD valid y 0) s) e ∙ q))
+            split (inr q) = inr (its-use w f (x .body) (x .bodyCoded) (sym (x .headCoded) ∙ ap (λ (y : ℕ). getD codes (512 + y) 0) e ∙ code), q)
+
+        widened : (x : Uses codes valid b h w s) → (x .head ≡ k) ⊎ (x .head ≡ k → ⊥) → bit (getD wider (x .head) 0) s ≡ 1
+        widened x (inl e) =
+            ap (λ (y : ℕ). bit (getD wider y 0) s) e ∙ ap (λ (y : ℕ). bit y s) at-wider
+            ∙ or-left (getD valid k 0) v s (ap (λ (y : ℕ). bit (getD valid y 0) s) (sym e) ∙ x .spans)
+        widened x (inr ne) = ap (λ (y : ℕ). bit y s) (beside-wider (x .head) ne) ∙ x .spans
+
+        to : Uses codes valid b h w s ⊎ ((w ≡ u) × (bit v s ≡ 1)) → Uses codes wider b h w s
+        to (inl x) =
+            record { body = x .body; head = x .head; low = x .low; bodyCoded = x .bodyCoded; headCoded = x .headCoded; spans = widened x (equal-or-not (x .head) k) }
+        to (inr (e, q)) =
+            record {
+              body = body;
+              head = k;
+              low = (low, is);
+              bodyCoded = coded ∙ ap codeOf (sym e);
+              headCoded = code ∙ ap (λ (x : Use). headCode body (x .head)) (sym e);
+              spans = ap (λ (y : ℕ). bit y s) at-wider ∙ or-right (getD valid k 0) v s q;
+            }
+
+    head-known : UseAdded u v codes valid b h codes wider lists b h
+    unfolding wider
+    head-known =
+        record {
+          listed =
+              record {
+                room = (l .room .0, length-set valid k (bitOr (getD valid k 0) v) ∙ l .room .1, l .room .2);
+                few = l .few;
+                families = l .families;
+                bodies = l .bodies;
+                byFamily = l .byFamily;
+                byBody = l .byBody;
+              };
+          one = (omega arith, omega arith);
+          coded = λ i k. inr (k, refl);
+          exact = wider-exact;
+        }
+
+  codes″ : List ℕ
+  codes″ = set codes (512 + h) (headCode body (u .head))
+
+  valid″ : List ℕ
+  valid″ = set valid h v
+
+  lists″ : List ℕ
+  lists″ = linked lists 1568 2080 h body
+
+  at-head : getD codes″ (512 + h) 0 ≡ headCode body (u .head)
+  unfolding codes″
+  at-head = getD-set-same codes (512 + h) (headCode body (u .head)) 0 (omega arith)
+
+  beside-head : (i : ℕ) → (i ≡ 512 + h → ⊥) → getD codes″ i 0 ≡ getD codes i 0
+  unfolding codes″
+  beside-head i ne = getD-set-other codes (512 + h) i (headCode body (u .head)) 0 ne
+
+  at-spans : getD valid″ h 0 ≡ v
+  unfolding valid″
+  at-spans = getD-set-same valid h v 0 (omega arith)
+
+  beside-spans : (i : ℕ) → i < h → getD valid″ i 0 ≡ getD valid i 0
+  unfolding valid″
+  beside-spans i k = getD-set-other valid h i v 0 (λ q. omega arith)
+
+  beside-lists : (p : ℕ) → p < 1568 → getD lists″ p 0 ≡ getD lists p 0
+  unfolding lists″
+  beside-lists p k = linked-other lists 1568 2080 h body p (λ q. omega arith) (λ q. omega arith)
+
+  head-listed : Listed codes″ valid″ lists″ b (suc h)
+  unfolding codes″ valid″ lists″
+  head-listed =
+      record {
+        room = (
+          length-set codes (512 + h) (headCode body (u .head)) ∙ l .room .0,
+          length-set valid h v ∙ l .room .1,
+          linked-length lists 1568 2080 h body ∙ l .room .2,
+        );
+        few = (l .few .0, few);
+        families = λ i k. rw (beside-head i (λ q. omega arith)) (l .families i k);
+        bodies = λ i k. bodies i (last-or-below k);
+        byFamily =
+            chained-same (λ i. familyIn (getD codes″ i 0)) (λ r. getD lists″ (512 + r) 0) (λ i. getD lists″ i 0) (l .byFamily)
+            (λ i k. ap familyIn (beside-head i (λ q. omega arith)))
+            (λ r k. beside-lists (512 + r) (omega arith))
+            (λ i k. beside-lists i (omega arith));
+        byBody =
+            linked-chained lists 1568 2080 body (λ i. bodyIn (getD codes″ (512 + i) 0)) (l .byBody)
+            (λ i k. ap bodyIn (beside-head (512 + i) (λ q. omega arith)))
+            (ap bodyIn at-head ∙ body-in-code body (u .head) (fit .head))
+            (omega arith) (omega arith) (omega arith);
+      }
+    where
+      bodies : (i : ℕ) → (i ≡ h) ⊎ (i < h) → bodyIn (getD codes″ (512 + i) 0) < b
+      bodies i (inl e) = rw (e, at-head, body-in-code body (u .head) (fit .head)) low
+      bodies i (inr k) = rw (beside-head (512 + i) (λ q. omega arith)) (l .bodies i k)
+
+  head-exact : (w : Use) (s : ℕ) → Fitting w → Uses codes″ valid″ b (suc h) w s ↔ (Uses codes valid b h w s ⊎ ((w ≡ u) × (bit v s ≡ 1)))
+  head-exact w s f = (λ x. from x (last-or-below (x .low .1)), to)
+    where
+      from : (x : Uses codes″ valid″ b (suc h) w s) → (x .head ≡ h) ⊎ (x .head < h) → Uses codes valid b h w s ⊎ ((w ≡ u) × (bit v s ≡ 1))
+      from x (inl e) =
+          inr (
+            its-use w f (x .body) (sym (beside-head (x .body) (λ q. omega arith)) ∙ x .bodyCoded)
+                (sym (x .headCoded) ∙ ap (λ (y : ℕ). getD codes″ (512 + y) 0) e ∙ at-head),
+            sym (ap (λ (y : ℕ). bit y s) (ap (λ (y : ℕ). getD valid″ y 0) e ∙ at-spans)) ∙ x .spans,
+          )
+      from x (inr k) =
+          inl record {
+            body = x .body;
+            head = x .head;
+            low = (x .low .0, k);
+            bodyCoded = sym (beside-head (x .body) (λ q. omega arith)) ∙ x .bodyCoded;
+            headCoded = sym (beside-head (512 + x .head) (λ q. omega arith)) ∙ x .headCoded;
+            spans = sym (ap (λ (y : ℕ). bit y s) (beside-spans (x .head) k)) ∙ x .spans;
+          }
+
+      to : Uses codes valid b h w s ⊎ ((w ≡ u) × (bit v s ≡ 1)) → Uses codes″ valid″ b (suc h) w s
+      to (inl x) =
+          record {
+            body = x .body;
+            head = x .head;
+            low = (x .low .0, omega arith);
+            bodyCoded = beside-head (x .body) (λ q. omega arith) ∙ x .bodyCoded;
+            headCoded = beside-head (512 + x .head) (λ q. omega arith) ∙ x .headCoded;
+            spans = ap (λ (y : ℕ). bit y s) (beside-spans (x .head) (x .low .1)) ∙ x .spans;
+          }
+      to (inr (e, q)) =
+          record {
+            body = body;
+            head = h;
+            low = (low, le-refl (suc h));
+            bodyCoded = beside-head body (λ q. omega arith) ∙ coded ∙ ap codeOf (sym e);
+            headCoded = at-head ∙ ap (λ (x : Use). headCode body (x .head)) (sym e);
+            spans = ap (λ (y : ℕ). bit y s) at-spans ∙ q;
+          }
+
+  head-new : UseAdded u v codes valid b h codes″ valid″ lists″ b (suc h)
+  head-new =
+      record {
+        listed = head-listed;
+        one = (omega arith, omega arith);
+        coded = λ i k. inr (k, beside-head i (λ q. omega arith));
+        exact = head-exact;
+      }
+
+  pub head-placed : {codes₁ valid₁ lists₁ : List ℕ} {r : ℕ} → HeadPlaced codes valid lists h body (headCode body (u .head)) v codes₁ valid₁ lists₁ r → UseAdded u v codes valid b h codes₁ valid₁ lists₁ b r
+  unfolding wider codes″ valid″ lists″
+  head-placed {codes₁} {valid₁} {lists₁} {r} p = go (p .placed)
+    where
+      go : ((r ≡ h) × (codes₁ ≡ codes) × (lists₁ ≡ lists) × Widened codes valid h (headCode body (u .head)) v valid₁)
+          ⊎ ((r ≡ h + 1) × (codes₁ ≡ codes″) × (lists₁ ≡ lists″) × (valid₁ ≡ valid″))
+          → UseAdded u v codes valid b h codes₁ valid₁ lists₁ b r
+      go (inl (e, f, g, w)) = rw (e, f, g, w .spans) (head-known (w .head) (w .low) (w .coded))
+      go (inr (e, f, g, i)) = rw (e ∙ add-one h, f, g, i) head-new

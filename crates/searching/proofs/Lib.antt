@@ -1,0 +1,11 @@
+pub mod Giving
+pub mod Growing
+pub mod Counting
+pub mod Entering
+pub mod Deriving
+pub mod Offering
+pub mod Walking
+pub mod Firing
+pub mod Reading
+pub mod Passing
+pub mod Closing

@@ -1,0 +1,75 @@
+-- One credential after the other.
+use mathlib.Core.Path.{_≡_, sym, ap, _∙_, subst}
+use mathlib.Core.Logic.{_⊎_, inl, inr}
+use mathlib.Core.List.{List}
+use Prim.Native.Nat.{ℕ, suc, _+_, _≤_, _<_}
+use native.Mathlib.Nat.{not-suc-le-zero}
+use native.Mathlib.Omega.{arith}
+use lib.ListN.{getD}
+use Rattle.meaning.specs.Credentials.{Statement, Credential}
+use Rattle.store.proofs.Chains.{last-or-below}
+use Rattle.store.proofs.Stores.{empty-stored}
+use Rattle.derivation.specs.Derivation.{levelOf}
+use Rattle.searching.specs.Searching.{Empty}
+use Rattle.searching.specs.Giving.{GivenBy, Fires, AtMinute, Some}
+use Rattle.searching.specs.Gaining.{Kept, Grown, Gains}
+use Rattle.searching.proofs.Growing.{level-same, gains-none, gains-less, gains-over, gains-then}
+
+-- what the first `at` credentials give was added, within the limit
+pub record Part (cs : List Credential) (m limit : ℕ) (keys notes : List ℕ) (n top : ℕ) (P : Statement → ℕ → Type 0) (keys′ slots′ links′ notes′ : List ℕ) (r at : ℕ) : Type 0 where
+  pub few : r ≤ limit
+  pub gains : Gains cs m limit keys notes n top (Some cs m at P) keys′ slots′ links′ notes′ r
+
+module _ {cs : List Credential} {m limit : ℕ} {keys notes : List ℕ} {n top : ℕ} {P : Statement → ℕ → Type 0} where
+  pub part-none : {slots links : List ℕ} → Kept cs m keys slots links notes n top → n ≤ limit → Part cs m limit keys notes n top P keys slots links notes n 0
+  part-none kept few = record { few = few; gains = gains-none kept few (λ key w. not-suc-le-zero (w .1)) }
+
+  module _ {keys′ slots′ links′ notes′ : List ℕ} {r at : ℕ} (a : Part cs m limit keys notes n top P keys′ slots′ links′ notes′ r at) where
+    pub part-end : (count : ℕ) → count ≤ at → Gains cs m limit keys notes n top (Some cs m count P) keys′ slots′ links′ notes′ r
+    part-end count l = gains-less (λ key w. (w .0, (let o = w .1 in omega arith), w .2)) (a .gains)
+
+    module _ {Q : Statement → ℕ → Type 0} {keys″ slots″ links″ notes″ : List ℕ} {u : ℕ} (g : Gains cs m limit keys′ notes′ r top (AtMinute cs m at Q) keys″ slots″ links″ notes″ u) where
+      pub part-over : {New : ℕ → Type 0} → limit < u → Gains cs m limit keys notes n top New keys″ slots″ links″ notes″ u
+      part-over l = gains-over l (gains-then (a .gains) (a .few) g)
+
+      pub part-next : u ≤ limit → ((s : Statement) (key : ℕ) → P s key → Q s key) → Part cs m limit keys notes n top P keys″ slots″ links″ notes″ u (at + 1)
+      part-next l f = record { few = l; gains = gains-less (λ key w. split key w (last-or-below (let o = w .1 in omega arith))) (gains-then (a .gains) (a .few) g) }
+        where
+          split : (key : ℕ) (w : Some cs m (at + 1) P key) → (w .0 ≡ at) ⊎ (w .0 < at) → Some cs m at P key ⊎ AtMinute cs m at Q key
+          split key (i, o, w) (inl q) =
+              let v = subst (λ (x : ℕ). AtMinute cs m x P key) q w in
+              inr record { valid = v .valid; holds = f _ key (v .holds) }
+          split key (i, o, w) (inr q) = inl (i, q, w)
+
+-- entry e fires in longer lists as it did
+module _ {keys notes keys′ notes′ : List ℕ} {n r e : ℕ} (g : Grown keys notes n keys′ notes′ r) (low : e < n) where
+  pub fires-grown : (s : Statement) (key : ℕ) → Fires s keys e key → Fires s keys′ e key
+  fires-grown s key w =
+      let p : getD keys (w .first) 0 ≡ getD keys′ (w .first) 0 = sym (g .same (w .first) (let o = w .low .0 in omega arith)) in
+      let q : getD keys (w .second) 0 ≡ getD keys′ (w .second) 0 = sym (g .same (w .second) (let o = w .low .1 in omega arith)) in
+      record {
+        first = w .first;
+        second = w .second;
+        low = w .low;
+        new = w .new;
+        premises = w .premises;
+        given = subst (λ (x : ℕ). GivenBy s x (getD keys′ (w .second) 0) key) p (subst (λ (y : ℕ). GivenBy s (getD keys (w .first) 0) y key) q (w .given));
+      }
+
+  pub level-kept : {level : ℕ} → level ≡ suc (levelOf notes e) → level ≡ suc (levelOf notes′ e)
+  level-kept q = q ∙ ap suc (sym (level-same g e low))
+
+pub kept-up : {cs : List Credential} {m : ℕ} {keys slots links notes : List ℕ} {n top top′ : ℕ} → top ≤ top′ → Kept cs m keys slots links notes n top → Kept cs m keys slots links notes n top′
+kept-up l k = record { stored = k .stored; room = k .room; derived = k .derived; ordered = k .ordered; under = λ i o. (let u = k .under i o in omega arith); low = k .low }
+
+pub kept-none : {cs : List Credential} {m : ℕ} {keys slots links notes : List ℕ} → Empty keys slots links notes → Kept cs m keys slots links notes 0 1
+kept-none {keys = keys} {slots} {links} e =
+    let r = e .room in
+    record {
+      stored = empty-stored keys slots links (r .0) (r .1) (r .2) (e .slotted) (e .linked);
+      room = r .3;
+      derived = λ i l. absurd (not-suc-le-zero l);
+      ordered = λ i j o l. absurd (not-suc-le-zero l);
+      under = λ i l. absurd (not-suc-le-zero l);
+      low = λ i l. absurd (not-suc-le-zero l);
+    }

@@ -1,0 +1,18 @@
+-- `put_decimal` writes at most ten digits.
+use native.Mathlib.Omega.{arith}
+use Rattle.text.proofs.Decimal.{decimal-length}
+use borrow.Author.Needs.{needs}
+use Rattle.text.proofs.put_decimal.Statement.{statement}
+use Rattle.text.proofs.put_decimal.Tie as tie
+
+put-number-requires : tie.Need-put-number-requires
+put-number-requires c κs = omega (arith, decimal-length (c .before .before .args .x))
+
+same-length : tie.Need-same-length
+same-length c = search needs
+
+returns : tie.Need-returns
+returns c = record { within = omega (arith, decimal-length (c .before .before .before .before .before .args .x), c .before .before .put-number .ensures .0); text = c .before .before .put-number .ensures .1 }
+
+pub put-decimal-spec : {M : Type 1} → statement M
+put-decimal-spec = tie.close (tie.spec put-number-requires same-length returns)
