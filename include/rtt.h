@@ -50,7 +50,7 @@
    - No alignment is asked for.
    - Stack: see RTT_STACK. The calls use no heap, no files and no shared state: threads may call at the same time on
      different lists.
-   - x86-64 Linux, linked with target/staticlib/librtt.a, which needs memcpy and memset.  */
+   - x86-64 Linux, linked with librtt.a (-lrtt), which needs memcpy and memset and nothing else.  */
 #ifndef RTT_H
 #define RTT_H
 
@@ -60,6 +60,9 @@
 #ifdef __cplusplus
 extern "C" {
 #endif
+
+/* The version of this interface; the pkg-config file and the manual pages take it from here. */
+#define RTT_VERSION "1.0.0"
 
 /* Bytes of stack that are enough for any call. Measured: 62,800 for rtt_complete, 45,722 for rtt_query, 25,120 for rtt_check; c/run
    measures anew. */
