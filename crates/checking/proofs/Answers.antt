@@ -5,7 +5,8 @@ use mathlib.Core.List.{List, [], _∷_, _++_, map}
 use Prim.Native.Nat.{ℕ, zero, suc, _+_, _-_, _<_, _≤_}
 use native.Mathlib.Omega.{arith}
 use lib.Dec.{T, eqb, leb, leb→le, eqb→eq}
-use lib.ListN.{length, getD}
+use lib.ListN.{length, getD, take}
+use lib.Seq.{length-take-le}
 use Rattle.meaning.specs.Lists.{upFrom, below}
 use Rattle.meaning.specs.Proofs.{Shown, nothing, shownBy}
 use Rattle.meaning.proofs.Tests.{and-left, and-right}
@@ -16,7 +17,7 @@ use Rattle.file.specs.Format.{credentials}
 use Rattle.file.specs.Reading.{between}
 use Rattle.asking.specs.Asking.{Request, StepLists, stepIn, stepsIn, size, oneLength, asking, Askable}
 use Rattle.asking.proofs.Asked.{askable-passes, asked-refused, asked-passed, askable}
-use Rattle.checking.specs.Checking.{stepHolds, lastShown, lastRow, proofRows, checking}
+use Rattle.checking.specs.Checking.{stepHolds, lastShown, lastRow, partBefore, proofRows, checking}
 use Rattle.checking.specs.Steps.{shownAt, Walkable, Walked, concluding}
 use Rattle.checking.proofs.Counting.{getD-counted}
 
@@ -103,30 +104,34 @@ module _ (f : List ℕ) (q : Request) (t : StepLists) (n : ℕ) where
 -- ---- from the refusals of the request
 
 module _ (f : List ℕ) (q : Request) (t : StepLists) (n : ℕ) where
+  -- the level, where nothing is refused
+  abbrev pub level : ℕ
+  level = lastShown f (partBefore n t) n .level
+
   -- no refusal of the request is given
-  pub after-request : Askable f q t → checking f q t n ≡ first (proofRows f q t n) (lastShown f t n .level)
+  pub after-request : Askable f q t → checking f q t n ≡ first (proofRows f q t n) level
   unfolding checking
-  after-request a = askable-passes f q t a (proofRows f q t n) (lastShown f t n .level)
+  after-request a = askable-passes f q t a (proofRows f q t n) level
 
   module _ (r : Refusal) (e : r ≡ firstRefusal (asking f q t)) where
     pub request-refused : (r .number ≡ 0 → ⊥) → refused (r .number) (r .place) ≡ checking f q t n
     unfolding checking
-    request-refused h = sym (asked-refused f q t r e h (proofRows f q t n) (lastShown f t n .level))
+    request-refused h = sym (asked-refused f q t r e h (proofRows f q t n) level)
 
     module _ (z : r .number ≡ 0) where
       pub count-refused : between 1 (size t) n ≡ false → refused 14 0 ≡ checking f q t n
       unfolding checking
-      count-refused b = sym (asked-passed f q t r e z (proofRows f q t n) (lastShown f t n .level) ∙ rw b refl)
+      count-refused b = sym (asked-passed f q t r e z (proofRows f q t n) level ∙ rw b refl)
 
       module _ (b : between 1 (size t) n ≡ true) where
-        pub count-passed : concluding f q t n ≡ checking f q t n
+        pub count-passed : concluding f q (partBefore n t) n ≡ checking f q t n
         unfolding checking concluding
-        count-passed = sym (asked-passed f q t r e z (proofRows f q t n) (lastShown f t n .level) ∙ rw b refl)
+        count-passed = sym (asked-passed f q t r e z (proofRows f q t n) level ∙ rw b refl)
 
         counted : (1 ≤ n) × (n ≤ size t)
         counted = let s : T (between 1 (size t) n) = subst⁻¹ T b tt in (leb→le 1 n (and-left (leb 1 n) (leb n (size t)) s), leb→le n (size t) (and-right (leb 1 n) (leb n (size t)) s))
 
-        pub walkable : {roles levels : List ℕ} → length roles ≡ 1024 → length levels ≡ 1024 → Walkable f t n roles levels × (1 ≤ n)
+        pub walkable : {roles levels : List ℕ} → length roles ≡ 1024 → length levels ≡ 1024 → Walkable f (partBefore n t) n roles levels × (1 ≤ n)
         walkable h k =
             let a = askable f q t r e z in
             let s : T (oneLength t) = subst⁻¹ T (a .lists) tt in
@@ -141,4 +146,5 @@ module _ (f : List ℕ) (q : Request) (t : StepLists) (n : ℕ) where
             let ev = eqb→eq (length (t .sets)) (size t) (and-right (x && y) v xyv) in
             let few = leb→le (size t) 1024 (and-right (leb 1 (size t)) (leb (size t) 1024) (and-right (x && y && v) u s)) in
             let c = counted in
-            (record { accepted = a .accepted; credential = c .1; first = omega arith; second = omega arith; sets = omega arith; few = omega arith; rooms = (h, k) }, c .0)
+            let part : (l : List ℕ) → length l ≡ size t → length (take n l) ≡ n = λ l o. length-take-le n l (omega arith) in
+            (record { accepted = a .accepted; credential = part (t .credential) refl; first = part (t .first) ef; second = part (t .second) es; sets = part (t .sets) ev; few = omega arith; rooms = (h, k) }, c .0)

@@ -1,5 +1,5 @@
 -- Steps at and past the count play no part.
-use mathlib.Core.Path.{_≡_, ap, ap₂}
+use mathlib.Core.Path.{_≡_, sym, ap, ap₂, _∙_}
 use mathlib.Core.Bool.{Bool, _&&_, not}
 use mathlib.Core.List.{List, [], _∷_, _++_, map}
 use Prim.Native.Nat.{ℕ, _-_, _<_, _≤_}
@@ -7,13 +7,15 @@ use native.Mathlib.Nat.{le-refl}
 use native.Mathlib.Omega.{arith}
 use lib.Dec.{eqb}
 use lib.ListN.{length, getD}
+use lib.Seq.{getD-take}
 use Rattle.meaning.specs.Lists.{below}
-use Rattle.meaning.specs.Proofs.{Step, nothing, shownBy}
-use Rattle.file.specs.Refusals.{first, _when_, _at_when_}
+use Rattle.meaning.specs.Proofs.{Step, Shown, nothing, shownBy}
+use Rattle.file.specs.Refusals.{Row, first, _when_, _at_when_}
 use Rattle.file.specs.Format.{credentials}
 use Rattle.file.specs.Reading.{between, reading}
 use Rattle.asking.specs.Asking.{Request, StepLists, stepIn, stepsIn, size, oneLength, within, asking}
-use Rattle.checking.specs.Checking.{stepHolds, stepRow, lastShown, checking}
+use Rattle.checking.specs.Checking.{stepHolds, stepRow, stepRows, lastShown, partBefore, checking}
+use Rattle.checking.specs.Steps.{concluding}
 use Rattle.checking.proofs.Counting.{counted-same}
 
 -- of one length, and the same entries below n
@@ -28,12 +30,44 @@ pub record AgreeBelow (n : ℕ) (t u : StepLists) : Type 0 where
   pub second : Agree n (t .second) (u .second)
   pub sets : Agree n (t .sets) (u .sets)
 
-module _ {n : ℕ} {t u : StepLists} (a : AgreeBelow n t u) where
-  same-step : (i : ℕ) → i < n → stepIn t i ≡ stepIn u i
-  same-step i h = λ j. record { credential = a .credential .same i h j; first = a .first .same i h j; second = a .second .same i h j; set = a .sets .same i h j }
-
+-- steps that are the same below n
+module _ (n : ℕ) (t u : StepLists) (same : (i : ℕ) → i < n → stepIn t i ≡ stepIn u i) where
   same-steps : (k : ℕ) → k ≤ n → stepsIn t k ≡ stepsIn u k
-  same-steps k l = counted-same (stepIn t) (stepIn u) k (λ i h. same-step i (omega arith))
+  same-steps k l = counted-same (stepIn t) (stepIn u) k (λ i h. same i (omega arith))
+
+  module _ (f : List ℕ) (q : Request) where
+    same-last : lastShown f t n ≡ lastShown f u n
+    same-last = ap (λ (ss : List Step). getD (shownBy (credentials f) [] ss) (n - 1) nothing) (same-steps n (le-refl n))
+
+    same-rows : stepRows f q t n ≡ stepRows f q u n
+    same-rows =
+        ap₂ (λ (l : List Row) (x : Shown). l ++ 16 when (not (eqb (x .role) (q .role) && eqb (x .set) (q .set))) ∷ [])
+        (counted-same (stepRow f (q .minute) t) (stepRow f (q .minute) u) n
+        (λ i h. ap₂ (λ (ss : List Step) (s : Step). 15 at i when (not (stepHolds (credentials f) (q .minute) ss s))) (same-steps i (omega arith)) (same i h)))
+        same-last
+
+-- the part before n has the steps before n
+module _ (n : ℕ) (t : StepLists) where
+  part-step : (i : ℕ) → i < n → stepIn (partBefore n t) i ≡ stepIn t i
+  part-step i h =
+      λ j.
+      record {
+        credential = getD-take n (t .credential) i 0 h j;
+        first = getD-take n (t .first) i 0 h j;
+        second = getD-take n (t .second) i 0 h j;
+        set = getD-take n (t .sets) i 0 h j;
+      }
+
+  pub part-concludes : (f : List ℕ) (q : Request) → concluding f q (partBefore n t) n ≡ concluding f q t n
+  unfolding concluding
+  part-concludes f q = ap₂ (λ (l : List Row) (x : Shown). first l (x .level)) (same-rows n (partBefore n t) t part-step f q) (same-last n (partBefore n t) t part-step f q)
+
+module _ {n : ℕ} {t u : StepLists} (a : AgreeBelow n t u) where
+  part-same : (i : ℕ) → i < n → stepIn (partBefore n t) i ≡ stepIn (partBefore n u) i
+  part-same i h =
+      part-step n t i h
+      ∙ (λ j. record { credential = a .credential .same i h j; first = a .first .same i h j; second = a .second .same i h j; set = a .sets .same i h j })
+      ∙ sym (part-step n u i h)
 
   same-size : size t ≡ size u
   same-size = a .credential .long
@@ -47,17 +81,6 @@ module _ {n : ℕ} {t u : StepLists} (a : AgreeBelow n t u) where
     same-asking =
         ap (λ (b : Bool). reading f ++ (9 when (not b) ∷ 11 when (not (within f (q .role) (q .set) && not (eqb (q .set) 0))) ∷ 12 when (eqb (q .minute) 4294967295) ∷ [])) same-lengths
 
-    same-rows : map (stepRow f (q .minute) t) (below n) ≡ map (stepRow f (q .minute) u) (below n)
-    same-rows =
-        counted-same (stepRow f (q .minute) t) (stepRow f (q .minute) u) n
-        (λ i h. ap₂ (λ (ss : List Step) (s : Step). 15 at i when (not (stepHolds (credentials f) (q .minute) ss s))) (same-steps i (omega arith)) (same-step i h))
-
-    same-last : lastShown f t n ≡ lastShown f u n
-    same-last = ap (λ (ss : List Step). getD (shownBy (credentials f) [] ss) (n - 1) nothing) (same-steps n (le-refl n))
-
     pub same-answer : checking f q t n ≡ checking f q u n
     unfolding checking
-    same-answer =
-        λ j.
-        first (same-asking j ++ (14 when (not (between 1 (same-size j) n)) ∷ (same-rows j ++ 16 when (not (eqb (same-last j .role) (q .role) && eqb (same-last j .set) (q .set))) ∷ [])))
-        (same-last j .level)
+    same-answer = λ j. first (same-asking j ++ (14 when (not (between 1 (same-size j) n)) ∷ same-rows n (partBefore n t) (partBefore n u) part-same f q j)) (same-last n (partBefore n t) (partBefore n u) part-same f q j .level)

@@ -16,17 +16,18 @@ use Rattle.meaning.specs.Lists.{all, below}
 use Rattle.meaning.specs.Credentials.{Credential, credentialAt}
 use Rattle.meaning.specs.Proofs.{Step, Shown, nothing, keeps, showing, shownBy, allKeep, Proof}
 use Rattle.meaning.proofs.Tests.{and-in, and-left, and-right, is-true, is-false, eq-in}
-use Rattle.file.specs.Refusals.{Row, done, refused}
+use Rattle.file.specs.Refusals.{Row, done, refused, first}
 use Rattle.file.specs.declared.Refusal.{Refusal}
 use Rattle.file.specs.Values.{firstRefusal}
 use Rattle.file.specs.Format.{credentials}
 use Rattle.file.specs.Reading.{between}
 use Rattle.asking.specs.Asking.{Request, StepLists, stepIn, stepsIn, size, asking, Askable}
 use Rattle.asking.proofs.Asked.{all-append, first-number, asked-refused, asked-passed, asked-low}
-use Rattle.checking.specs.Checking.{stepRow, lastShown, lastRow, proofRows, checking}
+use Rattle.checking.specs.Checking.{stepRow, lastShown, lastRow, partBefore, proofRows, checking}
 use Rattle.checking.specs.Steps.{concluding}
 use Rattle.checking.proofs.Counting.{length-counted, counted-snoc}
-use Rattle.checking.proofs.Answers.{holdsAt, asked, broken-at, other-last, level-last, after-request}
+use Rattle.checking.proofs.Answers.{holdsAt, asked, broken-at, other-last, level-last, level, after-request}
+use Rattle.checking.proofs.Parts.{part-concludes}
 
 -- ---- steps that keep the rules
 
@@ -137,7 +138,9 @@ module _ (f : List ℕ) (q : Request) (t : StepLists) (n : ℕ) (a : Askable f q
 
   concludes : checking f q t n ≡ concluding f q t n
   unfolding concluding
-  concludes = after-request f q t n a ∙ rw (le-leb 1 n some, le-leb n (size t) few) refl
+  concludes =
+      let e : first (proofRows f q t n) (level f q t n) ≡ concluding f q (partBefore n t) n = rw (le-leb 1 n some, le-leb n (size t) few) refl in
+      after-request f q t n a ∙ e ∙ part-concludes n t f q
 
   -- what checking answers in each case
   pub data Verdict : Type 0 where
@@ -223,12 +226,12 @@ module _ (f : List ℕ) (q : Request) (t : StepLists) (n : ℕ) where
   abbrev number : ℕ → Bool
   number k = leb 1 k && leb k 16 && not (eqb k 10) && not (eqb k 13)
 
-  rows-number : (l : List ℕ) → T (all (λ (r : Row). number (r .number)) (map (stepRow f (q .minute) t) l))
+  rows-number : (l : List ℕ) → T (all (λ (r : Row). number (r .number)) (map (stepRow f (q .minute) (partBefore n t)) l))
   rows-number [] = tt
   rows-number (i ∷ l) = rows-number l
 
   proof-numbers : T (all (λ (r : Row). number (r .number)) (proofRows f q t n))
-  proof-numbers = all-append (λ (r : Row). number (r .number)) (map (stepRow f (q .minute) t) (below n)) (lastRow f q t n ∷ []) (rows-number (below n)) tt
+  proof-numbers = all-append (λ (r : Row). number (r .number)) (map (stepRow f (q .minute) (partBefore n t)) (below n)) (lastRow f q (partBefore n t) n ∷ []) (rows-number (below n)) tt
 
   abbrev Numbered : ℕ → Type 0
   Numbered k = (1 ≤ k) × (k ≤ 16) × (k ≡ 10 → ⊥) × (k ≡ 13 → ⊥)
@@ -251,9 +254,9 @@ module _ (f : List ℕ) (q : Request) (t : StepLists) (n : ℕ) where
   unfolding checking
   refusal-numbers k p e =
       dite (ℕ-discrete (r .number) 0)
-      (λ z. number-out k (first-number number (proofRows f q t n) (lastShown f t n .level) proof-numbers (sym (asked-passed f q t r refl z (proofRows f q t n) (lastShown f t n .level)) ∙ e)))
+      (λ z. number-out k (first-number number (proofRows f q t n) (level f q t n) proof-numbers (sym (asked-passed f q t r refl z (proofRows f q t n) (level f q t n)) ∙ e)))
       (λ h. let l = asked-low f q t r refl h in
-      let c = asked-refused f q t r refl h (proofRows f q t n) (lastShown f t n .level) in
+      let c = asked-refused f q t r refl h (proofRows f q t n) (level f q t n) in
       let i : r .number ≡ k = cc in
       subst Numbered i (l .0, omega arith, l .2, λ x. omega arith))
     where

@@ -3,14 +3,14 @@ use mathlib.Core.Bool.{Bool, _&&_, not}
 use mathlib.Core.List.{List, [], _∷_, _++_, map}
 use Prim.Native.Nat.{ℕ, _-_}
 use lib.Dec.{eqb, ltb}
-use lib.ListN.{length, getD}
+use lib.ListN.{length, getD, take}
 use Rattle.meaning.specs.Lists.{below}
 use Rattle.meaning.specs.Credentials.{Credential, credentialAt}
 use Rattle.meaning.specs.Proofs.{Step, Shown, nothing, keeps, shownBy}
 use Rattle.file.specs.Refusals.{Row, Outcome, done, refused, first, _when_, _at_when_}
 use Rattle.file.specs.Format.{credentials}
 use Rattle.file.specs.Reading.{between}
-use Rattle.asking.specs.Asking.{Request, StepLists, stepIn, stepsIn, size, asking}
+use Rattle.asking.specs.Asking.{Request, StepLists, stepLists, stepIn, stepsIn, size, asking}
 use Rattle.checking.specs.declared.Checked.{Checked}
 use Rattle.checking.specs.declared.Checked.the-variants as C
 
@@ -30,13 +30,21 @@ lastShown f t n = getD (shownBy (credentials f) [] (stepsIn t n)) (n - 1) nothin
 abbrev pub lastRow : List ℕ → Request → StepLists → ℕ → Row
 lastRow f q t n = 16 when (not (eqb (lastShown f t n .role) (q .role) && eqb (lastShown f t n .set) (q .set)))
 
+-- 15 and 16
+abbrev pub stepRows : List ℕ → Request → StepLists → ℕ → List Row
+stepRows f q t n = map (stepRow f (q .minute) t) (below n) ++ lastRow f q t n ∷ []
+
+-- the entries before the step count, which are all that is read
+abbrev pub partBefore : ℕ → StepLists → StepLists
+partBefore n t = stepLists (take n (t .credential)) (take n (t .first)) (take n (t .second)) (take n (t .sets))
+
 -- 14 to 16; 14: step count outside 1 to L
 abbrev pub proofRows : List ℕ → Request → StepLists → ℕ → List Row
-proofRows f q t n = 14 when (not (between 1 (size t) n)) ∷ (map (stepRow f (q .minute) t) (below n) ++ lastRow f q t n ∷ [])
+proofRows f q t n = 14 when (not (between 1 (size t) n)) ∷ stepRows f q (partBefore n t) n
 
 -- the level of the proof, which is its last step's
 unfoldable pub checking : List ℕ → Request → StepLists → ℕ → Outcome ℕ
-checking f q t n = first (asking f q t ++ proofRows f q t n) (lastShown f t n .level)
+checking f q t n = first (asking f q t ++ proofRows f q t n) (lastShown f (partBefore n t) n .level)
 
 -- document 01's number and values for each case of the answer
 abbrev pub says : Checked → Outcome ℕ

@@ -1,7 +1,7 @@
 -- What the private functions take and answer.
 use mathlib.Core.Path.{_≡_}
 use mathlib.Core.Bool.{Bool, true, false, _&&_}
-use mathlib.Core.List.{List, [], _∷_, _++_, map}
+use mathlib.Core.List.{List, [], map}
 use Prim.Native.Nat.{ℕ, _+_, _<_, _≤_}
 use lib.Dec.{ltb}
 use lib.ListN.{length, getD}
@@ -12,7 +12,7 @@ use Rattle.file.specs.Refusals.{Outcome, first}
 use Rattle.file.specs.Format.{credentials}
 use Rattle.file.specs.Conditions.{Accepted}
 use Rattle.asking.specs.Asking.{Request, StepLists, stepIn, stepsIn}
-use Rattle.checking.specs.Checking.{stepHolds, stepRow, lastRow, lastShown}
+use Rattle.checking.specs.Checking.{stepHolds, stepRows, lastShown}
 use Rattle.checking.specs.declared.Cited.{Cited}
 use Rattle.checking.specs.declared.Judged.{Judged}
 
@@ -53,13 +53,13 @@ pub record Judges (cs : List M.Credential) (m : ℕ) (before : List Shown) (s : 
   pub shows : r .holds ≡ true → record { role = r .role; set = s .set; level = r .level } ≡ showing (M.credentialAt cs (s .credential)) before s
   pub low : r .level ≤ length before + 1
 
--- an accepted file, n steps of four lists, and room for what they show
+-- an accepted file, four lists of n steps and no more, and room for what they show
 pub record Walkable (f : List ℕ) (t : StepLists) (n : ℕ) (roles levels : List ℕ) : Type 0 where
   pub accepted : Accepted f
-  pub credential : n ≤ length (t .credential)
-  pub first : n ≤ length (t .first)
-  pub second : n ≤ length (t .second)
-  pub sets : n ≤ length (t .sets)
+  pub credential : length (t .credential) ≡ n
+  pub first : length (t .first) ≡ n
+  pub second : length (t .second) ≡ n
+  pub sets : length (t .sets) ≡ n
   pub few : n ≤ 1024
   pub rooms : (length roles ≡ 1024) × (length levels ≡ 1024)
 
@@ -78,4 +78,4 @@ pub record Walked (f : List ℕ) (m : ℕ) (t : StepLists) (n : ℕ) (roles leve
 
 -- 15, 16 or the level
 unfoldable pub concluding : List ℕ → Request → StepLists → ℕ → Outcome ℕ
-concluding f q t n = first (map (stepRow f (q .minute) t) (below n) ++ lastRow f q t n ∷ []) (lastShown f t n .level)
+concluding f q t n = first (stepRows f q t n) (lastShown f t n .level)

@@ -108,6 +108,7 @@ fn linked(set: u32, role: u32, t: u32) -> bool
 fn follows_from(body: Body, p: Cited, q: Cited, set: u32) -> bool
     ensures { λ r. ⌜ r ≡ follows (meaningOf body) (shownOf p) (shownOf q) set ⌝ }
 {
+    let union = p.set | q.set;
     match body {
         Body::Set(x) => set == x,
         Body::Inclusion(b) => (p.role == role_number(b)) & (set == p.set),
@@ -120,11 +121,11 @@ fn follows_from(body: Body, p: Cited, q: Cited, set: u32) -> bool
             & (set == p.set),
         Body::Union(b, c) => (p.role == role_number(b))
             & (q.role == role_number(c))
-            & (set == p.set | q.set),
+            & (set == union),
         Body::Disjoint(b, c) => (p.role == role_number(b))
             & (q.role == role_number(c))
             & (p.set & q.set == 0)
-            & (set == p.set | q.set),
+            & (set == union),
     }
 }
 
@@ -312,10 +313,10 @@ pub fn check(
         role,
         set,
         minute,
-        credential,
-        first,
-        second,
-        sets,
+        &credential[..steps],
+        &first[..steps],
+        &second[..steps],
+        &sets[..steps],
         steps,
     )
 }

@@ -20,7 +20,7 @@ use Rattle.asking.specs.Asking.{Request, StepLists, stepLists, within, requestR
 use Rattle.completing.specs.Completing as C
 use Rattle.completing.specs.Completing.{Lent, lentRow, fullRow, replyTo}
 use Rattle.querying.specs.Querying.{counts, fullRow as fullRow′, noneRow, levelFor, replyWith}
-use Rattle.checking.specs.Checking.{proofRows, lastShown, checking}
+use Rattle.checking.specs.Checking.{partBefore, proofRows, lastShown, checking}
 use Rattle.codec.specs.Bytes.{entries}
 use Rattle.codec.proofs.Entries.{length-first}
 use Rattle.rtt.specs.Interface.{notWhole, wholeLent, lentIn, completeReply, completeBytes, wholeSteps, stepListsIn, checkReply, queryReply}
@@ -167,7 +167,7 @@ module _ (b : StepLists) where
 
   pub check-unfit : (f : List ℕ) (q : Request) (n : ℕ) → stepsFit b ≡ false → checkReply f q b n ≡ notWhole f 0
   unfolding checkReply checking
-  check-unfit f q n e = steps-unfit f q e (proofRows f q (stepListsIn b) n) (lastShown f (stepListsIn b) n .level) 0
+  check-unfit f q n e = steps-unfit f q e (proofRows f q (stepListsIn b) n) (lastShown f (partBefore n (stepListsIn b)) n .level) 0
 
   pub query-unfit : (f : List ℕ) (q : Request) (ss : List Step) → stepsFit b ≡ false → queryReply f q b ss ≡ notWhole f (counts 0 0)
   unfolding queryReply replyWith

@@ -54,22 +54,22 @@ role-number-requires-8 : tie.Need-role-number-requires-8
 role-number-requires-8 c κs = search needs
 
 returns : tie.Need-returns
-returns c = let a = c .before .before .before .args in set-follows (shownOf (a .p)) (shownOf (a .q)) (a .set) (c .before .body .given .1)
+returns c = let a = c .before .before .before .before .before .args in set-follows (shownOf (a .p)) (shownOf (a .q)) (a .set) (c .before .body .given .1)
 
 returns-2 : tie.Need-returns-2
-returns-2 c = let a = c .before .before .before .before .before .before .args in inclusion-follows (shownOf (a .p)) (shownOf (a .q)) (a .set) (c .before .before .before .before .body2 .given .1) (c .before .before .role-number .ensures)
+returns-2 c = let a = c .before .before .before .before .before .before .before .before .args in inclusion-follows (shownOf (a .p)) (shownOf (a .q)) (a .set) (c .before .before .before .before .body2 .given .1) (c .before .before .role-number .ensures)
 
 returns-3 : tie.Need-returns-3
-returns-3 c = let a = c .before .before .before .before .before .before .before .before .args in linked-follows (shownOf (a .p)) (shownOf (a .q)) (a .set) (c .before .before .before .before .before .before .body3 .given .1) (c .before .before .before .before .role-number2 .ensures) (c .before .linked .ensures)
+returns-3 c = let a = c .before .before .before .before .before .before .before .before .before .before .args in linked-follows (shownOf (a .p)) (shownOf (a .q)) (a .set) (c .before .before .before .before .before .before .body3 .given .1) (c .before .before .before .before .role-number2 .ensures) (c .before .linked .ensures)
 
 returns-4 : tie.Need-returns-4
-returns-4 c = let a = c .before .before .before .before .before .before .before .before .before .before .args in intersection-follows (shownOf (a .p)) (shownOf (a .q)) (a .set) (c .before .before .before .before .before .before .role-number3 .ensures) (c .before .before .before .before .role-number4 .ensures) (c .before .before .before .before .before .before .before .before .body4 .given .1)
+returns-4 c = let a = c .before .before .before .before .before .before .before .before .before .before .before .before .args in intersection-follows (shownOf (a .p)) (shownOf (a .q)) (a .set) (c .before .before .before .before .before .before .role-number3 .ensures) (c .before .before .before .before .role-number4 .ensures) (c .before .before .before .before .before .before .before .before .body4 .given .1)
 
 returns-5 : tie.Need-returns-5
-returns-5 c = let a = c .before .before .before .before .before .before .before .before .before .args in union-follows (shownOf (a .p)) (shownOf (a .q)) (a .set) (c .before .before .before .before .before .role-number5 .ensures) (c .before .before .before .role-number6 .ensures) (c .before .before .before .before .before .before .before .body5 .given .1)
+returns-5 c = let a = c .before .before .before .before .before .before .before .before .before .args in union-follows (shownOf (a .p)) (shownOf (a .q)) (a .set) (c .before .before .before .role-number5 .ensures) (c .before .role-number6 .ensures) (c .before .before .before .before .before .body5 .given .1)
 
 returns-6 : tie.Need-returns-6
-returns-6 c = let a = c .before .before .before .before .before .before .before .before .before .before .before .args in disjoint-follows (shownOf (a .p)) (shownOf (a .q)) (a .set) (c .before .before .before .before .before .before .before .role-number7 .ensures) (c .before .before .before .before .before .role-number8 .ensures) (c .before .before .before .before .before .before .before .before .before .body6 .given .1)
+returns-6 c = let a = c .before .before .before .before .before .before .before .before .before .before .before .args in disjoint-follows (shownOf (a .p)) (shownOf (a .q)) (a .set) (c .before .before .before .before .before .role-number7 .ensures) (c .before .before .before .role-number8 .ensures) (c .before .before .before .before .before .before .before .body6 .given .1)
 
 pub follows-from-spec : {M : Type 1} → statement M
 follows-from-spec =
