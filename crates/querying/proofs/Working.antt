@@ -29,8 +29,10 @@ use Rattle.querying.specs.Working.{Worked}
 use Rattle.querying.proofs.Entries.{members-few, entry-has, no-entry, entry-least}
 
 -- a store of zeros
-pub empty : {keys slots links notes : List ℕ} → length keys ≡ 1024 → slots ≡ replicate 3072 0 → links ≡ replicate 2048 0 → length notes ≡ 4096 → Empty keys slots links notes
-empty k s l n = record {
+pub empty : {keys slots links notes codes lists sources : List ℕ} → length keys ≡ 1024 → slots ≡ replicate 3072 0 → links ≡ replicate 2048 0 → length notes ≡ 4096 → length codes ≡ 1024 → lists ≡ replicate 2592 0 → length sources ≡ 512 → Empty keys slots links notes codes lists sources
+empty k s l n c u r = record {
+  uses = (c, ap length u ∙ length-replicate {A = ℕ} 2592 0, r);
+  listed = λ p _. none-done 2592 u p;
   room = (k, ap length s ∙ length-replicate {A = ℕ} 3072 0, ap length l ∙ length-replicate {A = ℕ} 2048 0, n);
   slotted = λ p _. none-done 3072 s p;
   linked = λ p _. none-done 2048 l p;

@@ -47,6 +47,24 @@ fn room_for_notes() -> [u16; 4096]
     [0; 4096]
 }
 
+fn room_for_codes() -> [u32; 1024]
+    ensures { λ r. ⌜ length r ≡ 1024 ⌝ }
+{
+    [0; 1024]
+}
+
+fn room_for_lists() -> [u16; 2592]
+    ensures { λ r. ⌜ r ≡ replicate 2592 0 ⌝ }
+{
+    [0; 2592]
+}
+
+fn room_for_sources() -> [u16; 512]
+    ensures { λ r. ⌜ length r ≡ 512 ⌝ }
+{
+    [0; 512]
+}
+
 fn key_of(role: u32, set: u32) -> u64
     ensures { λ r. ⌜ r ≡ keyOf role set ⌝ }
 {
@@ -89,16 +107,30 @@ fn work(
     slots: &mut [u16],
     links: &mut [u16],
     notes: &mut [u16],
+    codes: &mut [u32],
+    lists: &mut [u16],
+    sources: &mut [u16],
     file: &[u8],
     role: u32,
     set: u32,
     minute: u32,
 ) -> Search
-    requires { ⌜ Accepted (now file) ⌝ ∗ ⌜ Empty (now keys) (now slots) (now links) (now notes) ⌝ ∗ ⌜ (length (now first) ≡ length (now credential)) × (length (now second) ≡ length (now credential)) × (length (now sets) ≡ length (now credential)) × (length (now credential) ≤ 1024) ⌝ }
+    requires { ⌜ Accepted (now file) ⌝ ∗ ⌜ Empty (now keys) (now slots) (now links) (now notes) (now codes) (now lists) (now sources) ⌝ ∗ ⌜ (length (now first) ≡ length (now credential)) × (length (now second) ≡ length (now credential)) × (length (now sets) ≡ length (now credential)) × (length (now credential) ≤ 1024) ⌝ }
     ensures { λ r. ⌜ Worked (now (file .entry)) (request role set minute) (length (now (credential .entry))) (now (credential .exit)) (now (first .exit)) (now (second .exit)) (now (sets .exit)) r ⌝ }
 {
     let limit = credential.len();
-    let n = searching::search(keys, slots, links, notes, file, minute, limit);
+    let n = searching::search(
+        keys,
+        slots,
+        links,
+        notes,
+        codes,
+        lists,
+        sources,
+        file,
+        minute,
+        limit,
+    );
     if limit < n {
         return refusal(10);
     }
@@ -133,6 +165,9 @@ fn run(
     let mut slots = room_for_slots();
     let mut links = room_for_links();
     let mut notes = room_for_notes();
+    let mut codes = room_for_codes();
+    let mut lists = room_for_lists();
+    let mut sources = room_for_sources();
     work(
         credential,
         first,
@@ -142,6 +177,9 @@ fn run(
         &mut slots,
         &mut links,
         &mut notes,
+        &mut codes,
+        &mut lists,
+        &mut sources,
         file,
         role,
         set,

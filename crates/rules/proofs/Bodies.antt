@@ -2,7 +2,7 @@
 use mathlib.Core.Path.{_≡_, refl, sym, ap, _∙_}
 use mathlib.Core.Logic.{_⊎_, inl, inr, _↔_}
 use mathlib.Core.List.{List}
-use Prim.Native.Nat.{ℕ, suc, _+_, _<_}
+use Prim.Native.Nat.{ℕ, suc, _+_, _≤_, _<_}
 use native.Mathlib.Nat.{zero-add, le-refl}
 use native.Mathlib.Numerals.{add-one}
 use native.Mathlib.Omega.{arith}
@@ -29,13 +29,27 @@ pub record Bodied (u : Use) (codes valid : List ℕ) (b h : ℕ) (codes′ lists
   pub coded : getD codes′ r 0 ≡ codeOf u
   pub same : (w : Use) (s : ℕ) → Fitting w → Uses codes′ valid b′ h w s ↔ Uses codes valid b h w s
   pub others : (i : ℕ) → i < b′ → (getD codes′ i 0 ≡ codeOf u) ⊎ ((i < b) × (getD codes′ i 0 ≡ getD codes i 0))
+  pub more : b ≤ b′
+  pub bodies : (i : ℕ) → i < b → getD codes′ i 0 ≡ getD codes i 0
+  pub heads : (i : ℕ) → getD codes′ (512 + i) 0 ≡ getD codes (512 + i) 0
   pub new : r ≡ b → b′ ≡ b + 1
   pub known : (r ≡ b → ⊥) → b′ ≡ b
 
 module _ (u : Use) (fit : Fitting u) {codes valid lists : List ℕ} {b h : ℕ} (l : Listed codes valid lists b h) (few : b < 512) where
   body-known : (r : ℕ) → r < b → getD codes r 0 ≡ codeOf u → Bodied u codes valid b h codes lists r b
   body-known r k e =
-      record { listed = l; low = k; coded = e; same = λ w s f. ((λ x. x), λ x. x); others = λ i j. inr (j, refl); new = λ q. absurd (omega arith); known = λ q. refl }
+      record {
+        listed = l;
+        low = k;
+        coded = e;
+        same = λ w s f. ((λ x. x), λ x. x);
+        others = λ i j. inr (j, refl);
+        more = le-refl b;
+        bodies = λ i _. refl;
+        heads = λ i. refl;
+        new = λ q. absurd (omega arith);
+        known = λ q. refl;
+      }
 
   codes′ : List ℕ
   codes′ = set codes b (codeOf u)
@@ -118,7 +132,18 @@ module _ (u : Use) (fit : Fitting u) {codes valid lists : List ℕ} {b h : ℕ} 
 
   body-new : Bodied u codes valid b h codes′ lists′ b (suc b)
   body-new =
-      record { listed = new-listed; low = le-refl (suc b); coded = at-body; same = new-same; others = λ i k. new-others i (last-or-below k); new = λ q. sym (add-one b); known = λ q. absurd (q refl) }
+      record {
+        listed = new-listed;
+        low = le-refl (suc b);
+        coded = at-body;
+        same = new-same;
+        others = λ i k. new-others i (last-or-below k);
+        more = omega arith;
+        bodies = λ i k. at-other i (λ q. omega arith);
+        heads = λ i. at-other (512 + i) (λ q. omega arith);
+        new = λ q. sym (add-one b);
+        known = λ q. absurd (q refl);
+      }
 
   pub body-placed : {codes₁ lists₁ : List ℕ} {r : ℕ} → BodyPlaced codes lists b (u .family) (codeOf u) codes₁ lists₁ r → (b′ : ℕ) × Bodied u codes valid b h codes₁ lists₁ r b′
   unfolding codes′ lists′

@@ -1,5 +1,5 @@
 -- What placing a head makes of the lists and of the uses.
-use mathlib.Core.Path.{_≡_, refl, sym, ap, _∙_}
+use mathlib.Core.Path.{_≡_, refl, sym, ap, _∙_, subst⁻¹}
 use mathlib.Core.Logic.{_⊎_, inl, inr, _↔_}
 use mathlib.Core.List.{List}
 use Prim.Native.Nat.{ℕ, suc, _+_, _%_, _<_}
@@ -12,7 +12,7 @@ use lib.Seq.{getD-set-same, getD-set-other}
 use Rattle.meaning.specs.Table.{bit}
 use Rattle.meaning.proofs.Bits.{bit-or, bit-below-two}
 use Rattle.store.proofs.Chains.{last-or-below, equal-or-not, chained-same}
-use Rattle.rules.specs.Uses.{Use, headCode, familyIn, bodyIn, Listed, Uses, Fitting, UseAdded}
+use Rattle.rules.specs.Uses.{Use, headCode, familyIn, bodyIn, Listed, Uses, Fitting, HeadOf, UseAdded}
 use Rattle.rules.specs.Places.{linked, Widened, HeadPlaced}
 use Rattle.rules.proofs.CodeLaws.{body-in-code, head-in-code, same-use}
 use Rattle.rules.proofs.Linking.{linked-length, linked-other, linked-chained}
@@ -99,6 +99,10 @@ module _ (u : Use) (fit : Fitting u) (v : ℕ) {codes valid lists : List ℕ} {b
                 byBody = l .byBody;
               };
           one = (omega arith, omega arith);
+          more = (omega arith, omega arith);
+          bodies = λ i _. refl;
+          heads = λ i _. refl;
+          new = λ i k j. absurd (omega arith);
           coded = λ i k. inr (k, refl);
           exact = wider-exact;
         }
@@ -200,11 +204,23 @@ module _ (u : Use) (fit : Fitting u) (v : ℕ) {codes valid lists : List ℕ} {b
             spans = ap (λ (y : ℕ). bit y s) at-spans ∙ q;
           }
 
+  own-head : HeadOf codes″ u h
+  own-head =
+      let e : bodyIn (getD codes″ (512 + h) 0) ≡ body = ap bodyIn at-head ∙ body-in-code body (u .head) (fit .head) in
+      record {
+        bodyCoded = ap (λ (x : ℕ). getD codes″ x 0) e ∙ beside-head body (λ q. omega arith) ∙ coded;
+        headCoded = at-head ∙ ap (λ (x : ℕ). headCode x (u .head)) (sym e);
+      }
+
   head-new : UseAdded u v codes valid b h codes″ valid″ lists″ b (suc h)
   head-new =
       record {
         listed = head-listed;
         one = (omega arith, omega arith);
+        more = (omega arith, omega arith);
+        bodies = λ i k. beside-head i (λ q. omega arith);
+        heads = λ i k. beside-head (512 + i) (λ q. omega arith);
+        new = λ i k j. let e : i ≡ h = omega arith in subst⁻¹ (HeadOf codes″ u) e own-head;
         coded = λ i k. inr (k, beside-head i (λ q. omega arith));
         exact = head-exact;
       }

@@ -3,6 +3,7 @@ use mathlib.Core.Path.{_≡_, _∙_}
 use mathlib.Core.Logic.{_⊎_, inl, inr}
 use mathlib.Core.List.{List}
 use Prim.Native.Nat.{ℕ, _+_, _≤_, _<_}
+use native.Mathlib.Nat.{lt-of-lt-of-le}
 use native.Mathlib.Omega.{arith}
 use lib.ListN.{getD}
 use Rattle.meaning.specs.Table.{bit}
@@ -23,6 +24,10 @@ module _ {u : Use} {codes valid : List ℕ} {b h : ℕ} {codes₁ lists₁ : Lis
       record {
         listed = a .listed;
         one = (one-more, a .one .1);
+        more = (d .more, a .more .1);
+        bodies = λ i k. a .bodies i (lt-of-lt-of-le k (d .more)) ∙ d .bodies i k;
+        heads = λ i k. a .heads i k ∙ d .heads i;
+        new = a .new;
         coded = λ i k. codes-of i (a .coded i k);
         exact = λ w s f. ((λ x. before w s f (a .exact w s f .0 x)), λ x. a .exact w s f .1 (after w s f x));
       }

@@ -68,9 +68,18 @@ pub record Fitting (u : Use) : Type 0 where
   pub other : u .other < 1024
   pub head : u .head < 1024
 
+-- head i is that of the use: its code has the use's head, and names a body with the use's code
+pub record HeadOf (codes : List ℕ) (u : Use) (i : ℕ) : Type 0 where
+  pub bodyCoded : getD codes (bodyIn (getD codes (512 + i) 0)) 0 ≡ bodyCode (u .family) (u .kind) (u .other)
+  pub headCoded : getD codes (512 + i) 0 ≡ headCode (bodyIn (getD codes (512 + i) 0)) (u .head)
+
 -- spans were added to a use, or it was added with these
 pub record UseAdded (u : Use) (v : ℕ) (codes valid : List ℕ) (b h : ℕ) (codes′ valid′ lists′ : List ℕ) (b′ h′ : ℕ) : Type 0 where
   pub listed : Listed codes′ valid′ lists′ b′ h′
   pub one : (b′ ≤ b + 1) × (h′ ≤ h + 1)
+  pub more : (b ≤ b′) × (h ≤ h′)
+  pub bodies : (i : ℕ) → i < b → getD codes′ i 0 ≡ getD codes i 0
+  pub heads : (i : ℕ) → i < h → getD codes′ (512 + i) 0 ≡ getD codes (512 + i) 0
+  pub new : (i : ℕ) → h ≤ i → i < h′ → HeadOf codes′ u i
   pub coded : (i : ℕ) → i < b′ → (getD codes′ i 0 ≡ bodyCode (u .family) (u .kind) (u .other)) ⊎ ((i < b) × (getD codes′ i 0 ≡ getD codes i 0))
   pub exact : (w : Use) (s : ℕ) → Fitting w → Uses codes′ valid′ b′ h′ w s ↔ (Uses codes valid b h w s ⊎ ((w ≡ u) × (bit v s ≡ 1)))

@@ -23,10 +23,12 @@ use Rattle.store.proofs.Chains.{last-or-below}
 use Rattle.store.proofs.Keys.{role-of-key, set-of-key}
 use Rattle.store.proofs.Stores.{distinct-keys}
 use Rattle.derivation.specs.Derivation.{levelOf}
-use Rattle.searching.specs.Searching.{Searched}
-use Rattle.searching.specs.Giving.{Keyed, GivenBy, Premises, Fires, AtMinute, Some, Fact}
-use Rattle.searching.specs.Gaining.{Kept, Grown, Has, Gains}
-use Rattle.searching.proofs.Growing.{level-same, has-grown, has-up}
+use Rattle.listing.specs.Sources.{Listing}
+use Rattle.deriving.specs.Offers.{Ready}
+use Rattle.searching.specs.Searching.{Stated, Searched}
+use Rattle.searching.specs.Giving.{GivenBy, Premises, Fires, AtMinute, Some, Fact}
+use Rattle.deriving.specs.Gaining.{Keyed, Kept, Grown, Has, Gains}
+use Rattle.deriving.proofs.Growing.{level-same, has-grown, has-up}
 use Rattle.searching.proofs.Passing.{kept-up}
 
 -- the statement gives the key from entries i and j
@@ -42,13 +44,23 @@ pub record Closed (f : List ℕ) (m limit : ℕ) (keys slots links notes : List 
   pub closed : (i j at key : ℕ) → i < e → j < e → at < N f → AtMinute (credentials f) m at (From keys i j) key → Has keys notes n (suc (max (levelOf notes i) (levelOf notes j))) key
 
 module _ {f : List ℕ} {m limit : ℕ} where
-  pub closed-start : {keys notes keys′ slots′ links′ notes′ : List ℕ} {n r : ℕ} → Gains (credentials f) m limit keys notes n 1 (Some (credentials f) m (N f) Fact) keys′ slots′ links′ notes′ r → r ≤ limit → Closed f m limit keys′ slots′ links′ notes′ r 0
-  closed-start g l =
-      record { few = l; top = 1; kept = g .kept l; next = λ o. omega arith; facts = g .has l; closed = λ i j at key o. absurd (not-suc-le-zero o) }
+  pub closed-start : {keys slots links notes : List ℕ} {n : ℕ} → Stated f m limit keys slots links notes n → Closed f m limit keys slots links notes n 0
+  closed-start s =
+      record { few = s .few; top = 1; kept = s .kept; next = λ o. omega arith; facts = s .facts; closed = λ i j at key o. absurd (not-suc-le-zero o) }
 
   module _ {keys slots links notes : List ℕ} {n e : ℕ} (c : Closed f m limit keys slots links notes n e) (low : e < n) where
     pub fire-kept : Kept (credentials f) m keys slots links notes n (levelOf notes e + 1)
     fire-kept = kept-up (c .next low) (c .kept)
+
+    pub fire-ready : {codes lists sources : List ℕ} {bodies heads : ℕ} (level : ℕ) → level ≡ levelOf notes e + 1 → Accepted f → limit ≤ 1024 → Listing (credentials f) m codes lists sources bodies heads → Ready f (record { minute = m; limit = limit; bodies = bodies; heads = heads; e = e; level = level }) keys slots links notes codes lists sources n
+    fire-ready {codes} {lists} {sources} {bodies} {heads} level q a l li =
+        record {
+          accepted = a;
+          kept = subst⁻¹ (λ (x : ℕ). Kept (credentials f) m keys slots links notes n x) q fire-kept;
+          few = (c .few, l);
+          listing = li;
+          firing = (low, omega arith);
+        }
 
     module _ {keys′ slots′ links′ notes′ : List ℕ} {r : ℕ} (g : Gains (credentials f) m limit keys notes n (levelOf notes e + 1) (Some (credentials f) m (N f) (λ s. Fires s keys e)) keys′ slots′ links′ notes′ r) (l : r ≤ limit) where
       grown : Grown keys notes n keys′ notes′ r
@@ -147,3 +159,7 @@ module _ {f : List ℕ} {m limit : ℕ} {keys slots links notes : List ℕ} {n e
 pub searched-over : {cs : List Credential} {m limit n top : ℕ} {keys notes keys′ slots′ links′ notes′ : List ℕ} {New : ℕ → Type 0} {r : ℕ} → Gains cs m limit keys notes n top New keys′ slots′ links′ notes′ r → limit < r → Searched cs m limit keys′ slots′ links′ notes′ r
 searched-over g l =
     record { stored = λ o. absurd (omega arith); derivation = λ o. absurd (omega arith); complete = λ o. absurd (omega arith); over = g .over }
+
+-- what the credentials state
+pub stated-by : {f : List ℕ} {m limit n r : ℕ} {keys notes keys′ slots′ links′ notes′ : List ℕ} → Gains (credentials f) m limit keys notes n 1 (Some (credentials f) m (N f) Fact) keys′ slots′ links′ notes′ r → r ≤ limit → Stated f m limit keys′ slots′ links′ notes′ r
+stated-by g l = record { few = l; kept = g .kept l; facts = g .has l }

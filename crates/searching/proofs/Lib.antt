@@ -1,11 +1,6 @@
-pub mod Giving
-pub mod Growing
-pub mod Counting
-pub mod Entering
-pub mod Deriving
-pub mod Offering
-pub mod Walking
-pub mod Firing
+pub mod Bodies
+pub mod Families
+pub mod Statements
 pub mod Reading
 pub mod Passing
 pub mod Closing

@@ -1,19 +1,19 @@
 -- One credential after the other.
 use mathlib.Core.Path.{_≡_, sym, ap, _∙_, subst}
 use mathlib.Core.Logic.{_⊎_, inl, inr}
-use mathlib.Core.List.{List}
+use mathlib.Core.List.{List, _++_}
 use Prim.Native.Nat.{ℕ, suc, _+_, _≤_, _<_}
 use native.Mathlib.Nat.{not-suc-le-zero}
 use native.Mathlib.Omega.{arith}
-use lib.ListN.{getD}
+use lib.ListN.{length, getD, take, drop, length-take, length-drop, length-append}
 use Rattle.meaning.specs.Credentials.{Statement, Credential}
 use Rattle.store.proofs.Chains.{last-or-below}
 use Rattle.store.proofs.Stores.{empty-stored}
 use Rattle.derivation.specs.Derivation.{levelOf}
 use Rattle.searching.specs.Searching.{Empty}
 use Rattle.searching.specs.Giving.{GivenBy, Fires, AtMinute, Some}
-use Rattle.searching.specs.Gaining.{Kept, Grown, Gains}
-use Rattle.searching.proofs.Growing.{level-same, gains-none, gains-less, gains-over, gains-then}
+use Rattle.deriving.specs.Gaining.{Kept, Grown, Gains}
+use Rattle.deriving.proofs.Growing.{level-same, gains-none, gains-less, gains-over, gains-then}
 
 -- what the first `at` credentials give was added, within the limit
 pub record Part (cs : List Credential) (m limit : ℕ) (keys notes : List ℕ) (n top : ℕ) (P : Statement → ℕ → Type 0) (keys′ slots′ links′ notes′ : List ℕ) (r at : ℕ) : Type 0 where
@@ -62,14 +62,18 @@ module _ {keys notes keys′ notes′ : List ℕ} {n r e : ℕ} (g : Grown keys 
 pub kept-up : {cs : List Credential} {m : ℕ} {keys slots links notes : List ℕ} {n top top′ : ℕ} → top ≤ top′ → Kept cs m keys slots links notes n top → Kept cs m keys slots links notes n top′
 kept-up l k = record { stored = k .stored; room = k .room; derived = k .derived; ordered = k .ordered; under = λ i o. (let u = k .under i o in omega arith); low = k .low }
 
-pub kept-none : {cs : List Credential} {m : ℕ} {keys slots links notes : List ℕ} → Empty keys slots links notes → Kept cs m keys slots links notes 0 1
-kept-none {keys = keys} {slots} {links} e =
+pub kept-none : {cs : List Credential} {m : ℕ} {keys slots links notes codes lists sources : List ℕ} → Empty keys slots links notes codes lists sources → {keys′ : List ℕ} → length keys′ ≡ 1024 → Kept cs m keys′ slots links notes 0 1
+kept-none {slots = slots} {links} e {keys′} l =
     let r = e .room in
     record {
-      stored = empty-stored keys slots links (r .0) (r .1) (r .2) (e .slotted) (e .linked);
+      stored = empty-stored keys′ slots links l (r .1) (r .2) (e .slotted) (e .linked);
       room = r .3;
       derived = λ i l. absurd (not-suc-le-zero l);
       ordered = λ i j o l. absurd (not-suc-le-zero l);
       under = λ i l. absurd (not-suc-le-zero l);
       low = λ i l. absurd (not-suc-le-zero l);
     }
+
+-- the first half, changed, and the rest
+pub joined : (half keys : List ℕ) → length half ≡ length (take 512 keys) → length keys ≡ 1024 → length (half ++ drop 512 keys) ≡ 1024
+joined half keys e l = simp (length-append, length-drop) (omega (arith, e ∙ length-take 512 keys))

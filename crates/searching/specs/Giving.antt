@@ -1,41 +1,21 @@
--- What two entries give by a credential, and what an entry gives as it fires.
+-- What an entry gives as it fires, by the statements that are valid at the minute.
 use mathlib.Core.Path.{_≡_}
 use mathlib.Core.Logic.{_⊎_}
-use mathlib.Core.Bool.{Bool, true, false}
 use mathlib.Core.List.{List}
-use Prim.Native.Nat.{ℕ, _^_, _≤_, _<_}
+use Prim.Native.Nat.{ℕ, _+_, _%_, _≤_, _<_}
 use lib.Dec.{T}
 use lib.ListN.{getD}
 use Rattle.meaning.specs.Credentials.{Body, set, role, link, _∩_, _⊙_, _⊗_, Statement, covers, Credential, credentialAt}
-use Rattle.meaning.specs.Sequence.{Relation, Gives}
-use Rattle.meaning.specs.Proofs.{citesFirst, citesSecond}
-use Rattle.file.specs.Format.{roleNumber}
-use Rattle.file.specs.declared.Body as D
-use Rattle.file.specs.declared.Body.the-variants.{Set, Inclusion, Linked, Intersection, Union, Disjoint}
-use Rattle.store.specs.Entries.{keyOf, roleIn, setIn}
-use Rattle.searching.specs.declared.Given as G
-use Rattle.searching.specs.declared.Given.the-variants as W
+use Rattle.meaning.specs.Sequence.{Gives}
+use Rattle.store.specs.Entries.{keyOf, roleIn}
+use Rattle.firing.specs.Steps.{familyOf}
+use Rattle.deriving.specs.declared.Turn.{Turn}
+use Rattle.deriving.specs.Gaining.{Keyed}
+use Rattle.deriving.specs.Offers.{Partner, ToHeads}
 
--- the one membership of an entry with the key a
-abbrev pub Keyed : ℕ → Relation
-Keyed a Ar X = (roleIn a ≡ Ar) × (X ≡ setIn a)
-
--- r is the set that a body gives from entries with the keys a and b
-pub record Answers (e : Body) (a b : ℕ) (r : G.Given) : Type 0 where
-  pub sound : (X : ℕ) → r ≡ W.Set X → (X < 2 ^ 32) × Gives (Keyed a) (Keyed b) e X
-  pub complete : (X : ℕ) → Gives (Keyed a) (Keyed b) e X → r ≡ W.Set X
-
--- the key that a statement gives from them
+-- the key that a statement gives from entries with the keys a and b
 abbrev pub GivenBy : Statement → ℕ → ℕ → ℕ → Type 0
 GivenBy s a b key = (X : ℕ) × Gives (Keyed a) (Keyed b) (s .body) X × (key ≡ keyOf (s .head) X)
-
--- from entry e and entry j up to it, with e as the second premise or as the first
-abbrev pub Beside : Statement → List ℕ → ℕ → Bool → ℕ → ℕ → Type 0
-Beside s keys e true j key = (j ≤ e) × GivenBy s (getD keys j 0) (getD keys e 0) key
-Beside s keys e false j key = (j ≤ e) × GivenBy s (getD keys e 0) (getD keys j 0) key
-
-abbrev pub Side : Statement → List ℕ → ℕ → Bool → ℕ → Type 0
-Side s keys e second key = (j : ℕ) × Beside s keys e second j key
 
 -- the premises that a body takes: none, one, which counts for both here, or two
 abbrev pub Premises : Body → ℕ → ℕ → Type 0
@@ -70,24 +50,14 @@ pub record Fact (s : Statement) (key : ℕ) : Type 0 where
   pub body : s .body ≡ set value
   pub states : key ≡ keyOf (s .head) value
 
--- a body of two premises
-abbrev pub Double : Body → Type 0
-Double e = (citesFirst e ≡ true) × (citesSecond e ≡ true)
+-- the families whose bodies have entry e as a premise
+abbrev pub FamilyOf : Turn → List ℕ → ℕ → Type 0
+FamilyOf t keys family = (family ≡ roleIn (getD keys (t .e) 0)) ⊎ (family ≡ 1024 + roleIn (getD keys (t .e) 0) % 32)
 
--- the roles of the premises
-abbrev pub Joins : Body → ℕ → ℕ → Type 0
-Joins e p q = (a b X : ℕ) → Gives (Keyed a) (Keyed b) e X → (roleIn a ≡ p) × (roleIn b ≡ q)
+-- what the heads of a body get from entry e and the entries up to it
+abbrev pub ByBody : Turn → List ℕ → ℕ → List ℕ → ℕ → Type 0
+ByBody t codes body keys key = (j X : ℕ) × (j ≤ t .e) × Partner t codes body keys j X × ToHeads t codes body X key
 
--- the role of the entry that fires, and of the other
-abbrev pub Sided : Body → ℕ → ℕ → Bool → Type 0
-Sided e one other true = Joins e other one
-Sided e one other false = Joins e one other
-
--- roles and names within the format's numbers
-abbrev pub RolesFit : D.Body → Type 0
-RolesFit (Set X) = Unit {0}
-RolesFit (Inclusion p) = roleNumber p < 1024
-RolesFit (Linked p t) = (roleNumber p < 1024) × (t .0 < 32)
-RolesFit (Intersection p q) = (roleNumber p < 1024) × (roleNumber q < 1024)
-RolesFit (Union p q) = (roleNumber p < 1024) × (roleNumber q < 1024)
-RolesFit (Disjoint p q) = (roleNumber p < 1024) × (roleNumber q < 1024)
+-- what those of every body of a family get
+abbrev pub ByFamily : Turn → List ℕ → ℕ → List ℕ → ℕ → Type 0
+ByFamily t codes family keys key = (body : ℕ) × (body < t .bodies) × (familyOf codes body ≡ family) × ByBody t codes body keys key

@@ -1,3 +1,2 @@
-pub mod Searching
 pub mod Giving
-pub mod Gaining
+pub mod Searching

@@ -4,13 +4,17 @@ use Prim.Native.Nat.{_-_}
 use native.Mathlib.Omega.{arith}
 use Rattle.file.specs.Format.{N, credentials}
 use Rattle.file.specs.declared.Head.{Head}
+use Rattle.deriving.proofs.Growing.{alike}
 use Rattle.searching.specs.Giving.{Fact}
-use Rattle.searching.proofs.Growing.{alike}
 use Rattle.searching.proofs.Reading.{head-count}
-use Rattle.searching.proofs.Passing.{Part, part-none, part-end, part-over, part-next, kept-none}
+use Rattle.searching.proofs.Passing.{Part, part-none, part-end, part-over, part-next}
 use borrow.Author.Needs.{needs}
 use Rattle.searching.proofs.facts.Statement.{statement}
 use Rattle.searching.proofs.facts.Tie as tie
+use Rattle.searching.proofs.facts.Reads as reads
+use Rattle.searching.proofs.facts.Lts as lts
+use Rattle.file.proofs.read_head.Reads as read-head-reads
+use Rattle.searching.proofs.fact_at.Reads as fact-at-reads
 
 abbrev Inv-loop : tie.InvT-loop
 Inv-loop keys₀ slots₀ links₀ notes₀ file minute limit count r₀ at₀ keys slots links notes r at = (count ≡ N file) × Part (credentials file) minute limit keys₀ notes₀ 0 1 Fact keys slots links notes r at
@@ -18,55 +22,71 @@ Inv-loop keys₀ slots₀ links₀ notes₀ file minute limit count r₀ at₀ k
 abbrev μ-loop : tie.MeasureT-loop
 μ-loop keys₀ slots₀ links₀ notes₀ file minute limit count r₀ at₀ keys slots links notes r at = count - at
 
+-- src/lib.rt:113:9
 read-head-requires : tie.Need-read-head-requires Inv-loop μ-loop
 read-head-requires c κs = search needs
 
+-- src/lib.rt:117:5
 loop-holds : tie.Need-loop-holds Inv-loop μ-loop
-loop-holds c = (ap (λ (h : Head). h .credentials) (c .read-head .ensures) ∙ head-count (c .before .before .before .before .before .before .args .file .now) (c .before .before .before .before .before .before .pre .0), part-none (kept-none (c .before .before .before .before .before .before .pre .1 .0)) (omega arith))
+loop-holds c = (ap (λ (h : Head). h .credentials) (c .read-head .ensures) ∙ head-count (c .before .before .before .before .before .before .args .file .now) (c .before .before .before .before .before .before .pre .0), part-none (c .before .before .before .before .before .before .pre .1 .0) (omega arith))
 
+-- src/lib.rt:118:9
 fact-at-requires : tie.Need-fact-at-requires Inv-loop μ-loop
 fact-at-requires c κs = let p = c .before .before .before .before .before .before .before .before .before .before .before .before .pre in
     let v = c .before .before .before .before .before .loop .inv .1 in
-    (p .0, (v .gains .kept (v .few), (v .few, p .1 .1, omega (arith, c .before .before .before .before .before .loop .inv .0))))
+    (p .0, (v .gains .kept (v .few), (v .few, p .1 .1, omega (arith, c .before .before .before .before .before .loop .inv .0, c .before .before .before .before .loop-test .taken))))
 
+-- src/lib.rt:120:13
 same-length : tie.Need-same-length Inv-loop μ-loop
-same-length c = c .before .before .before .before .before .before .before .before .before .fact-at .kept .0 ∙ alike (kept-none (c .before .before .before .before .before .before .before .before .before .before .before .before .before .before .before .before .before .before .before .before .before .before .pre .1 .0)) (c .before .before .before .before .before .before .before .before .before .before .before .before .before .before .before .loop .inv .1 .gains .kept (c .before .before .before .before .before .before .before .before .before .before .before .before .before .before .before .loop .inv .1 .few)) .0
+same-length c = let v = c .before .before .before .before .before .before .before .before .before .before .before .before .before .before .before .loop .inv .1 in c .before .before .before .before .before .before .before .before .before .fact-at .kept .0 ∙ alike (c .before .before .before .before .before .before .before .before .before .before .before .before .before .before .before .before .before .before .before .before .before .before .pre .1 .0) (v .gains .kept (v .few)) .0
 
+-- src/lib.rt:120:13
 same-length-2 : tie.Need-same-length-2 Inv-loop μ-loop
-same-length-2 c = c .before .before .before .before .before .before .before .before .before .fact-at .kept .1 .0 ∙ alike (kept-none (c .before .before .before .before .before .before .before .before .before .before .before .before .before .before .before .before .before .before .before .before .before .before .pre .1 .0)) (c .before .before .before .before .before .before .before .before .before .before .before .before .before .before .before .loop .inv .1 .gains .kept (c .before .before .before .before .before .before .before .before .before .before .before .before .before .before .before .loop .inv .1 .few)) .1
+same-length-2 c = let v = c .before .before .before .before .before .before .before .before .before .before .before .before .before .before .before .loop .inv .1 in c .before .before .before .before .before .before .before .before .before .fact-at .kept .1 .0 ∙ alike (c .before .before .before .before .before .before .before .before .before .before .before .before .before .before .before .before .before .before .before .before .before .before .pre .1 .0) (v .gains .kept (v .few)) .1
 
+-- src/lib.rt:120:13
 same-length-3 : tie.Need-same-length-3 Inv-loop μ-loop
-same-length-3 c = c .before .before .before .before .before .before .before .before .before .fact-at .kept .1 .1 .0 ∙ alike (kept-none (c .before .before .before .before .before .before .before .before .before .before .before .before .before .before .before .before .before .before .before .before .before .before .pre .1 .0)) (c .before .before .before .before .before .before .before .before .before .before .before .before .before .before .before .loop .inv .1 .gains .kept (c .before .before .before .before .before .before .before .before .before .before .before .before .before .before .before .loop .inv .1 .few)) .2
+same-length-3 c = let v = c .before .before .before .before .before .before .before .before .before .before .before .before .before .before .before .loop .inv .1 in c .before .before .before .before .before .before .before .before .before .fact-at .kept .1 .1 .0 ∙ alike (c .before .before .before .before .before .before .before .before .before .before .before .before .before .before .before .before .before .before .before .before .before .before .pre .1 .0) (v .gains .kept (v .few)) .2
 
+-- src/lib.rt:120:13
 same-length-4 : tie.Need-same-length-4 Inv-loop μ-loop
-same-length-4 c = c .before .before .before .before .before .before .before .before .before .fact-at .kept .1 .1 .1 .0 ∙ alike (kept-none (c .before .before .before .before .before .before .before .before .before .before .before .before .before .before .before .before .before .before .before .before .before .before .pre .1 .0)) (c .before .before .before .before .before .before .before .before .before .before .before .before .before .before .before .loop .inv .1 .gains .kept (c .before .before .before .before .before .before .before .before .before .before .before .before .before .before .before .loop .inv .1 .few)) .3
+same-length-4 c = let v = c .before .before .before .before .before .before .before .before .before .before .before .before .before .before .before .loop .inv .1 in c .before .before .before .before .before .before .before .before .before .fact-at .kept .1 .1 .1 .0 ∙ alike (c .before .before .before .before .before .before .before .before .before .before .before .before .before .before .before .before .before .before .before .before .before .before .pre .1 .0) (v .gains .kept (v .few)) .3
 
+-- src/lib.rt:120:13
 returns : tie.Need-returns Inv-loop μ-loop
 returns c = part-over (c .before .before .before .before .before .before .before .before .before .before .before .before .before .before .before .loop .inv .1) (c .before .before .before .before .before .before .before .before .before .fact-at .ensures) (c .if1 .taken)
 
+-- src/lib.rt:122:9
 add-at : tie.Need-add-at Inv-loop μ-loop
 add-at c = search needs
 
+-- src/lib.rt:117:5
 loop-less : tie.Need-loop-less Inv-loop μ-loop
 loop-less c = search needs
 
+-- src/lib.rt:117:5
 loop-again : tie.Need-loop-again Inv-loop μ-loop
 loop-again c = (c .before .before .before .before .before .before .before .before .before .before .before .before .before .before .before .loop .inv .0, part-next (c .before .before .before .before .before .before .before .before .before .before .before .before .before .before .before .loop .inv .1) (c .before .before .before .before .before .before .before .before .before .fact-at .ensures) (c .if1 .left) (λ s key w. w))
 
+-- src/lib.rt:101:1
 same-length-5 : tie.Need-same-length-5 Inv-loop μ-loop
-same-length-5 c = alike (kept-none (c .before .before .before .before .before .before .before .before .pre .1 .0)) (c .before .loop .inv .1 .gains .kept (c .before .loop .inv .1 .few)) .0
+same-length-5 c = let v = c .before .loop .inv .1 in alike (c .before .before .before .before .before .before .before .before .pre .1 .0) (v .gains .kept (v .few)) .0
 
+-- src/lib.rt:101:1
 same-length-6 : tie.Need-same-length-6 Inv-loop μ-loop
-same-length-6 c = alike (kept-none (c .before .before .before .before .before .before .before .before .pre .1 .0)) (c .before .loop .inv .1 .gains .kept (c .before .loop .inv .1 .few)) .1
+same-length-6 c = let v = c .before .loop .inv .1 in alike (c .before .before .before .before .before .before .before .before .pre .1 .0) (v .gains .kept (v .few)) .1
 
+-- src/lib.rt:101:1
 same-length-7 : tie.Need-same-length-7 Inv-loop μ-loop
-same-length-7 c = alike (kept-none (c .before .before .before .before .before .before .before .before .pre .1 .0)) (c .before .loop .inv .1 .gains .kept (c .before .loop .inv .1 .few)) .2
+same-length-7 c = let v = c .before .loop .inv .1 in alike (c .before .before .before .before .before .before .before .before .pre .1 .0) (v .gains .kept (v .few)) .2
 
+-- src/lib.rt:101:1
 same-length-8 : tie.Need-same-length-8 Inv-loop μ-loop
-same-length-8 c = alike (kept-none (c .before .before .before .before .before .before .before .before .pre .1 .0)) (c .before .loop .inv .1 .gains .kept (c .before .loop .inv .1 .few)) .3
+same-length-8 c = let v = c .before .loop .inv .1 in alike (c .before .before .before .before .before .before .before .before .pre .1 .0) (v .gains .kept (v .few)) .3
 
+-- src/lib.rt:101:1
 returns-2 : tie.Need-returns-2 Inv-loop μ-loop
-returns-2 c = part-end (c .before .loop .inv .1) (N (c .before .before .before .before .before .before .before .before .args .file .now)) (omega (arith, c .before .loop .inv .0))
+returns-2 c = part-end (c .before .loop .inv .1) (N (c .before .before .before .before .before .before .before .before .args .file .now)) (omega (arith, c .before .loop .inv .0, c .loop-test .left))
 
 pub facts-spec : {M : Type 1} → statement M
 facts-spec =

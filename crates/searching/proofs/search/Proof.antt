@@ -1,107 +1,136 @@
--- `searching::search` finds all memberships at the minute. The loop's invariant: what the entries before e give is there.
-use mathlib.Core.Path.{_∙_}
-use Prim.Native.Nat.{_-_}
+-- `searching::search` lists the uses at the minute, enters what the credentials state, and fires all entries.
+use mathlib.Core.Path.{sym, _∙_}
 use native.Mathlib.Omega.{arith}
-use Rattle.searching.proofs.Growing.{alike}
-use Rattle.searching.proofs.Passing.{kept-none}
-use Rattle.searching.proofs.Closing.{Closed, closed-start, fire-kept, closed-next, searched, searched-over}
+use lib.ListN.{length-take}
+use Rattle.searching.proofs.Passing.{kept-none, joined}
+use Rattle.searching.proofs.Closing.{stated-by, searched-over}
 use borrow.Author.Needs.{needs}
 use Rattle.searching.proofs.search.Statement.{statement}
 use Rattle.searching.proofs.search.Tie as tie
+use Rattle.searching.proofs.search.Reads as reads
+use Rattle.searching.proofs.search.Lts as lts
+use Rattle.listing.proofs.list_uses.Reads as list-uses-reads
+use Rattle.searching.proofs.facts.Reads as facts-reads
+use Rattle.searching.proofs.fire_all.Reads as fire-all-reads
+use Rattle.searching.proofs.room_for_sets.Reads as room-for-sets-reads
 
-abbrev Inv-loop : tie.InvT-loop
-Inv-loop keys₀ slots₀ links₀ notes₀ file minute limit n₀ e₀ keys slots links notes n e = Closed file minute limit keys slots links notes n e
+-- src/lib.rt:446:39
+slice-relend-prefix-list-uses : tie.Need-slice-relend-prefix-list-uses
+slice-relend-prefix-list-uses c = search needs
 
-abbrev μ-loop : tie.MeasureT-loop
-μ-loop keys₀ slots₀ links₀ notes₀ file minute limit n₀ e₀ keys slots links notes n e = limit - e
+-- src/lib.rt:446:39
+slice-aggregate-list-uses : tie.Need-slice-aggregate-list-uses
+slice-aggregate-list-uses c = simp length-take (omega (arith, c .before .before .before .before .before .before .before .before .before .before .pre .1 .0 .room))
 
-facts-requires : tie.Need-facts-requires Inv-loop μ-loop
-facts-requires c κs = search needs
+-- src/lib.rt:446:9
+list-uses-requires : tie.Need-list-uses-requires
+list-uses-requires c κs = let p = c .before .before .before .before .before .before .before .before .before .before .before .before .pre in
+    (p .0, record { room = (p .1 .0 .uses .0, simp length-take (omega (arith, p .1 .0 .room)), p .1 .0 .uses .1, p .1 .0 .uses .2); none = p .1 .0 .listed })
 
-same-length : tie.Need-same-length Inv-loop μ-loop
+-- src/lib.rt:447:9
+facts-requires : tie.Need-facts-requires
+facts-requires c κs = let p = c .before .before .before .before .before .before .before .before .before .before .before .before .before .before .before .before .before .before .before .before .before .before .before .before .before .pre in (p .0, (kept-none (p .1 .0) (joined (c .before .before .before .before .before .before .before .before .before .before .before .before .list-uses .last .1 .0) (c .before .before .before .before .before .before .before .before .before .before .before .before .before .before .before .before .before .before .before .before .before .before .before .before .before .args .keys .now) (c .before .before .before .before .before .before .before .before .before .before .before .before .list-uses .kept .1 .0) (p .1 .0 .room .0)), p .1 .1))
+
+-- src/lib.rt:449:9
+same-length : tie.Need-same-length
 same-length c = search needs
 
-same-length-2 : tie.Need-same-length-2 Inv-loop μ-loop
+-- src/lib.rt:449:9
+same-length-2 : tie.Need-same-length-2
 same-length-2 c = search needs
 
-same-length-3 : tie.Need-same-length-3 Inv-loop μ-loop
+-- src/lib.rt:449:9
+same-length-3 : tie.Need-same-length-3
 same-length-3 c = search needs
 
-same-length-4 : tie.Need-same-length-4 Inv-loop μ-loop
+-- src/lib.rt:449:9
+same-length-4 : tie.Need-same-length-4
 same-length-4 c = search needs
 
-returns : tie.Need-returns Inv-loop μ-loop
+-- src/lib.rt:449:9
+same-length-5 : tie.Need-same-length-5
+same-length-5 c = search needs
+
+-- src/lib.rt:449:9
+same-length-6 : tie.Need-same-length-6
+same-length-6 c = search needs
+
+-- src/lib.rt:449:9
+same-length-7 : tie.Need-same-length-7
+same-length-7 c = search needs
+
+-- src/lib.rt:449:9
+returns : tie.Need-returns
 returns c = searched-over (c .before .before .before .before .before .before .before .before .before .facts .ensures) (c .if1 .taken)
 
-loop-holds : tie.Need-loop-holds Inv-loop μ-loop
-loop-holds c = closed-start (c .before .before .before .before .before .before .before .before .before .facts .ensures) (c .if1 .left)
+-- src/lib.rt:451:20
+room-for-sets-requires : tie.Need-room-for-sets-requires
+room-for-sets-requires c κs = search needs
 
-fire-requires : tie.Need-fire-requires Inv-loop μ-loop
-fire-requires c κs = let v = c .before .before .before .before .before .loop .inv in (c .before .before .before .before .before .before .before .before .before .before .before .before .before .before .before .before .before .before .before .before .before .before .before .before .before .pre .0, (fire-kept v (c .before .before .before .before .loop-test .taken), (v .few, c .before .before .before .before .before .before .before .before .before .before .before .before .before .before .before .before .before .before .before .before .before .before .before .before .before .pre .1 .1, c .before .before .before .before .loop-test .taken)))
+-- src/lib.rt:457:9
+slice-aggregate-fire-all : tie.Need-slice-aggregate-fire-all
+slice-aggregate-fire-all c = search needs
 
-same-length-5 : tie.Need-same-length-5 Inv-loop μ-loop
-same-length-5 c = c .before .before .before .before .before .before .before .before .before .fire .kept .0 ∙ alike (kept-none (c .before .before .before .before .before .before .before .before .before .before .before .before .before .before .before .before .before .before .before .before .before .before .before .before .before .before .before .before .before .before .before .before .before .before .before .pre .1 .0)) (c .before .before .before .before .before .before .before .before .before .before .before .before .before .before .before .loop .inv .kept) .0
+-- src/lib.rt:452:5
+fire-all-requires : tie.Need-fire-all-requires
+fire-all-requires c κs = let p = c .before .before .before .before .before .before .before .before .before .before .before .before .before .before .before .before .before .before .before .before .before .before .before .before .before .before .before .before .before .before .before .before .before .before .before .before .before .before .before .before .before .before .before .before .pre in (p .0, (c .before .before .before .before .before .before .before .before .room-for-sets .ensures, (c .before .before .before .before .before .before .before .before .before .before .before .before .before .before .before .before .before .before .before .before .before .before .before .before .before .before .before .before .before .before .before .list-uses .ensures, (stated-by (c .before .before .before .before .before .before .before .before .before .before .before .before .before .before .before .before .before .before .facts .ensures) (c .before .before .before .before .before .before .before .before .before .if1 .left), p .1 .1))))
 
-same-length-6 : tie.Need-same-length-6 Inv-loop μ-loop
-same-length-6 c = c .before .before .before .before .before .before .before .before .before .fire .kept .1 .0 ∙ alike (kept-none (c .before .before .before .before .before .before .before .before .before .before .before .before .before .before .before .before .before .before .before .before .before .before .before .before .before .before .before .before .before .before .before .before .before .before .before .pre .1 .0)) (c .before .before .before .before .before .before .before .before .before .before .before .before .before .before .before .loop .inv .kept) .1
+-- src/lib.rt:430:1
+same-length-8 : tie.Need-same-length-8
+same-length-8 c = c .before .before .before .before .before .before .before .before .before .fire-all .kept .0 ∙ c .before .before .before .before .before .before .before .before .before .before .before .before .before .before .before .before .before .before .before .before .before .before .before .before .before .before .before .before .facts .kept .0 ∙ joined (c .before .before .before .before .before .before .before .before .before .before .before .before .before .before .before .before .before .before .before .before .before .before .before .before .before .before .before .before .before .before .before .before .before .before .before .before .before .before .before .before .before .list-uses .last .1 .0) (c .before .before .before .before .before .before .before .before .before .before .before .before .before .before .before .before .before .before .before .before .before .before .before .before .before .before .before .before .before .before .before .before .before .before .before .before .before .before .before .before .before .before .before .before .before .before .before .before .before .before .before .before .before .before .args .keys .now) (c .before .before .before .before .before .before .before .before .before .before .before .before .before .before .before .before .before .before .before .before .before .before .before .before .before .before .before .before .before .before .before .before .before .before .before .before .before .before .before .before .before .list-uses .kept .1 .0) (c .before .before .before .before .before .before .before .before .before .before .before .before .before .before .before .before .before .before .before .before .before .before .before .before .before .before .before .before .before .before .before .before .before .before .before .before .before .before .before .before .before .before .before .before .before .before .before .before .before .before .before .before .before .before .pre .1 .0 .room .0) ∙ sym (c .before .before .before .before .before .before .before .before .before .before .before .before .before .before .before .before .before .before .before .before .before .before .before .before .before .before .before .before .before .before .before .before .before .before .before .before .before .before .before .before .before .before .before .before .before .before .before .before .before .before .before .before .before .before .pre .1 .0 .room .0)
 
-same-length-7 : tie.Need-same-length-7 Inv-loop μ-loop
-same-length-7 c = c .before .before .before .before .before .before .before .before .before .fire .kept .1 .1 .0 ∙ alike (kept-none (c .before .before .before .before .before .before .before .before .before .before .before .before .before .before .before .before .before .before .before .before .before .before .before .before .before .before .before .before .before .before .before .before .before .before .before .pre .1 .0)) (c .before .before .before .before .before .before .before .before .before .before .before .before .before .before .before .loop .inv .kept) .2
+-- src/lib.rt:430:1
+same-length-9 : tie.Need-same-length-9
+same-length-9 c = search needs
 
-same-length-8 : tie.Need-same-length-8 Inv-loop μ-loop
-same-length-8 c = c .before .before .before .before .before .before .before .before .before .fire .kept .1 .1 .1 .0 ∙ alike (kept-none (c .before .before .before .before .before .before .before .before .before .before .before .before .before .before .before .before .before .before .before .before .before .before .before .before .before .before .before .before .before .before .before .before .before .before .before .pre .1 .0)) (c .before .before .before .before .before .before .before .before .before .before .before .before .before .before .before .loop .inv .kept) .3
+-- src/lib.rt:430:1
+same-length-10 : tie.Need-same-length-10
+same-length-10 c = search needs
 
-returns-2 : tie.Need-returns-2 Inv-loop μ-loop
-returns-2 c = searched-over (c .before .before .before .before .before .before .before .before .before .fire .ensures) (c .if2 .taken)
+-- src/lib.rt:430:1
+same-length-11 : tie.Need-same-length-11
+same-length-11 c = search needs
 
-add-e : tie.Need-add-e Inv-loop μ-loop
-add-e c = omega (arith, c .before .before .before .before .before .before .before .before .before .before .before .before .before .before .before .loop .inv .few, c .before .before .before .before .before .before .before .before .before .before .before .before .before .before .before .before .before .before .before .before .before .before .before .before .before .before .before .before .before .before .before .before .before .before .before .pre .1 .1)
+-- src/lib.rt:430:1
+same-length-12 : tie.Need-same-length-12
+same-length-12 c = c .before .before .before .before .before .before .before .before .before .before .before .before .before .before .before .before .before .before .before .before .before .before .before .before .before .before .before .before .before .before .before .before .before .before .before .before .before .before .before .before .before .list-uses .kept .0
 
-loop-less : tie.Need-loop-less Inv-loop μ-loop
-loop-less c = omega (arith, c .before .before .before .before .before .before .before .before .before .before .before .before .before .before .before .loop .inv .few)
+-- src/lib.rt:430:1
+same-length-13 : tie.Need-same-length-13
+same-length-13 c = c .before .before .before .before .before .before .before .before .before .before .before .before .before .before .before .before .before .before .before .before .before .before .before .before .before .before .before .before .before .before .before .before .before .before .before .before .before .before .before .before .before .list-uses .kept .1 .1 .0
 
-loop-again : tie.Need-loop-again Inv-loop μ-loop
-loop-again c = closed-next (c .before .before .before .before .before .before .before .before .before .before .before .before .before .before .before .loop .inv) (c .before .before .before .before .before .before .before .before .before .before .before .before .before .before .loop-test .taken) (c .before .before .before .before .before .before .before .before .before .fire .ensures) (c .if2 .left)
+-- src/lib.rt:430:1
+same-length-14 : tie.Need-same-length-14
+same-length-14 c = search needs
 
-same-length-9 : tie.Need-same-length-9 Inv-loop μ-loop
-same-length-9 c = alike (kept-none (c .before .before .before .before .before .before .before .before .before .before .before .before .before .before .before .before .before .before .before .before .before .pre .1 .0)) (c .before .loop .inv .kept) .0
-
-same-length-10 : tie.Need-same-length-10 Inv-loop μ-loop
-same-length-10 c = alike (kept-none (c .before .before .before .before .before .before .before .before .before .before .before .before .before .before .before .before .before .before .before .before .before .pre .1 .0)) (c .before .loop .inv .kept) .1
-
-same-length-11 : tie.Need-same-length-11 Inv-loop μ-loop
-same-length-11 c = alike (kept-none (c .before .before .before .before .before .before .before .before .before .before .before .before .before .before .before .before .before .before .before .before .before .pre .1 .0)) (c .before .loop .inv .kept) .2
-
-same-length-12 : tie.Need-same-length-12 Inv-loop μ-loop
-same-length-12 c = alike (kept-none (c .before .before .before .before .before .before .before .before .before .before .before .before .before .before .before .before .before .before .before .before .before .pre .1 .0)) (c .before .loop .inv .kept) .3
-
-returns-3 : tie.Need-returns-3 Inv-loop μ-loop
-returns-3 c = searched (c .before .before .before .before .before .before .before .before .before .before .before .before .before .before .before .before .before .before .before .before .before .pre .0) (c .before .loop .inv) (c .loop-test .left)
+-- src/lib.rt:430:1
+returns-2 : tie.Need-returns-2
+returns-2 c = search needs
 
 pub search-spec : {M : Type 1} → statement M
 search-spec =
     tie.close
     (tie.spec
-    Inv-loop
-    μ-loop
+    slice-relend-prefix-list-uses
+    slice-aggregate-list-uses
+    list-uses-requires
     facts-requires
     same-length
     same-length-2
     same-length-3
     same-length-4
-    returns
-    loop-holds
-    fire-requires
     same-length-5
     same-length-6
     same-length-7
+    returns
+    room-for-sets-requires
+    slice-aggregate-fire-all
+    fire-all-requires
     same-length-8
-    returns-2
-    add-e
-    loop-less
-    loop-again
     same-length-9
     same-length-10
     same-length-11
     same-length-12
-    returns-3)
+    same-length-13
+    same-length-14
+    returns-2)

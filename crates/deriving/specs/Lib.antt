@@ -1,0 +1,2 @@
+pub mod Gaining
+pub mod Offers
