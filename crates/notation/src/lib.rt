@@ -1,4 +1,5 @@
-// Credentials and proof steps as lines of text, in document 01's notation (UTF-8).
+// Credentials and proof steps as lines of text, in document 01's notation (UTF-8). A function that writes a line returns how many bytes it
+// has, and leaves the bytes after it as they were.
 ghost use mathlib.Core.List.{[], _∷_, _++_};
 ghost use Prim.Native.Nat.{_+_, _≤_};
 ghost use lib.ListN.{length};
@@ -18,7 +19,7 @@ pub struct Step {
     pub set: u32,
 }
 
-// Each private function writes at `at` and returns the next place. What stands before `at` stays.
+// Each private function writes at `at` and returns the next place. What stands before `at` and from that place on stays.
 
 // Number, colon, space.
 fn put_label(out: &mut [u8], at: usize, x: u32) -> usize
@@ -94,7 +95,7 @@ fn put_period(out: &mut [u8], at: usize, period: Period) -> usize
 
 // Position, head, body, period.
 pub fn credential_line(out: &mut [u8; 128], position: u32, c: Credential) -> usize
-    ensures { λ r. ⌜ Lined (now (out .exit)) r (credentialLine position c) ⌝ }
+    ensures { λ r. ⌜ Lined (now (out .entry)) (now (out .exit)) r (credentialLine position c) ⌝ }
 {
     let body = c.body;
     let head_at = put_label(out, 0, position);
@@ -147,7 +148,7 @@ fn put_two(out: &mut [u8], at: usize, first: u32, second: u32) -> usize
 
 // Number, what the step shows, by which credential, from which steps. c is the credential that the step names.
 pub fn step_line(out: &mut [u8; 128], number: u32, s: Step, c: Credential) -> usize
-    ensures { λ r. ⌜ Lined (now (out .exit)) r (stepLine number s c) ⌝ }
+    ensures { λ r. ⌜ Lined (now (out .entry)) (now (out .exit)) r (stepLine number s c) ⌝ }
 {
     let body = c.body;
     let shown_at = put_label(out, 0, number);

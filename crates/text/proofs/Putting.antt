@@ -1,21 +1,36 @@
 -- One piece of text put behind another, and a line made of pieces.
-use mathlib.Core.Path.{_≡_, ap, _∙_}
+use mathlib.Core.Path.{_≡_, sym, ap, ap₂, _∙_}
 use mathlib.Core.List.{List, _++_, append-assoc}
-use Prim.Native.Nat.{ℕ, _+_, _≤_}
+use Prim.Native.Nat.{ℕ, _+_, _-_, _≤_}
 use native.Mathlib.Omega.{arith}
-use lib.ListN.{length, take}
+use lib.ListN.{length, take, drop, length-append, take-append-drop}
+use lib.Seq.{drop-drop}
 use Rattle.text.specs.Lines.{Put, Lined}
+
+-- lists that agree from i on agree from any later place on
+pub drop-later : (i r : ℕ) (a b : List ℕ) → i ≤ r → drop i a ≡ drop i b → drop r a ≡ drop r b
+drop-later i r a b h e =
+    let n : i + (r - i) ≡ r = omega arith in
+    let later : (l : List ℕ) → drop (r - i) (drop i l) ≡ drop r l = λ (l : List ℕ). drop-drop (r - i) i l ∙ ap (λ (k : ℕ). drop k l) n in
+    sym (later a) ∙ ap (drop (r - i)) e ∙ later b
 
 module _ {before middle after : List ℕ} {at i r m n : ℕ} {x y : List ℕ} where
   infixr 5 _then_
   pub _then_ : Put before middle at i m x → Put middle after i r n y → Put before after at r (m + n) (x ++ y)
   p then q = record {
+    count = omega (arith, p .count, q .count, length-append x y);
     within = omega arith;
     text = q .text ∙ ap (λ (l : List ℕ). l ++ y) (p .text) ∙ append-assoc (take at before) x y;
+    rest = q .rest ∙ drop-later i r middle before (omega (arith, q .count)) (p .rest);
   }
 
 pub wider : {before after : List ℕ} {at r m n : ℕ} {x : List ℕ} → m ≤ n → Put before after at r m x → Put before after at r n x
-wider h p = record { within = omega arith; text = p .text }
+wider h p = record { count = p .count; within = omega arith; text = p .text; rest = p .rest }
 
-pub lined : {before after : List ℕ} {r m : ℕ} {x : List ℕ} → length after ≡ 128 → m ≤ 128 → Put before after 0 r m x → Lined after r x
-lined h k p = record { room = h; fits = omega arith; line = p .text }
+pub lined : {before after : List ℕ} {r m : ℕ} {x : List ℕ} → length after ≡ 128 → m ≤ 128 → Put before after 0 r m x → Lined before after r x
+lined {before} {after} {r} h k p = record {
+  room = h;
+  fits = omega arith;
+  count = omega (arith, p .count);
+  line = sym (take-append-drop r after) ∙ ap₂ _++_ (p .text) (p .rest);
+}

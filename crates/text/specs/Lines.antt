@@ -2,7 +2,7 @@
 use mathlib.Core.List.{List, [], _∷_, _++_}
 use mathlib.Core.Path.{_≡_}
 use Prim.Native.Nat.{ℕ, zero, suc, _+_, _/_, _%_, _≤_}
-use lib.ListN.{length, take}
+use lib.ListN.{length, take, drop}
 
 -- the digits of a number below 10 ^ n, without leading zeros; one digit for 0
 abbrev pub digits : ℕ → ℕ → List ℕ
@@ -31,13 +31,16 @@ refusedLine number place = 114 ∷ 101 ∷ 102 ∷ 117 ∷ 115 ∷ 101 ∷ 100 �
 abbrev pub intervalLine : ℕ → ℕ → ℕ → ℕ → List ℕ
 intervalLine role set from to = line (role / 32 ∷ role % 32 ∷ set ∷ from ∷ to ∷ [])
 
--- The bytes, at most so many, stand between the places `at` and r of a buffer; what stood before `at` still does.
+-- The bytes, at most so many, stand between the places `at` and r of a buffer; what stood before `at` and from r on still does.
 pub record Put (before after : List ℕ) (at r most : ℕ) (bytes : List ℕ) : Type 0 where
+  pub count : r ≡ at + length bytes
   pub within : r ≤ at + most
   pub text : take r after ≡ take at before ++ bytes
+  pub rest : drop r after ≡ drop r before
 
--- the first r of 128 bytes are a line
-pub record Lined (out : List ℕ) (r : ℕ) (bytes : List ℕ) : Type 0 where
-  pub room : length out ≡ 128
+-- a line of r bytes, and from r on what stood there: all 128 bytes are fixed
+pub record Lined (before after : List ℕ) (r : ℕ) (bytes : List ℕ) : Type 0 where
+  pub room : length after ≡ 128
   pub fits : r ≤ 128
-  pub line : take r out ≡ bytes
+  pub count : r ≡ length bytes
+  pub line : after ≡ bytes ++ drop r before

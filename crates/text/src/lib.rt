@@ -1,8 +1,9 @@
-// Lines of text in a buffer of 128 bytes, and numbers in decimal. A function that writes a line returns how many bytes it has.
+// Lines of text in a buffer of 128 bytes, and numbers in decimal. A function that writes a line returns how many bytes it has, and leaves
+// the bytes after it as they were.
 ghost use mathlib.Core.Path.{_≡_};
-ghost use mathlib.Core.List.{[], _∷_, _++_};
+ghost use mathlib.Core.List.{[], _∷_};
 ghost use Prim.Native.Nat.{_+_, _%_, _≤_, _<_};
-ghost use lib.ListN.{length, take};
+ghost use lib.ListN.{length};
 ghost use Rattle.text.specs.Lines.{Put, Lined, decimal, field, line, refusedLine, intervalLine};
 ghost use Rattle.text.specs.Numbers.{digit, numberIn};
 
@@ -12,11 +13,11 @@ pub enum Parsed {
     Nothing,
 }
 
-// Each function that puts something writes it at `at` and returns the next place. What stands before `at` stays.
+// Each function that puts something writes it at `at` and returns the next place. What stands before `at` and from that place on stays.
 
 fn put_byte(out: &mut [u8], at: usize, b: u8) -> usize
     requires { ⌜ at < length (now out) ⌝ }
-    ensures { λ r. ⌜ (r ≡ at + 1) × (take r (now (out .exit)) ≡ take at (now (out .entry)) ++ (b ∷ [])) ⌝ }
+    ensures { λ r. ⌜ Put (now (out .entry)) (now (out .exit)) at r 1 (b ∷ []) ⌝ }
 {
     out[at] = b;
     at + 1
@@ -37,14 +38,14 @@ pub fn put_bytes(out: &mut [u8], at: usize, bytes: &[u8]) -> usize
 // The last digit of x.
 fn put_digit(out: &mut [u8], at: usize, x: u32) -> usize
     requires { ⌜ at < length (now out) ⌝ }
-    ensures { λ r. ⌜ (r ≡ at + 1) × (take r (now (out .exit)) ≡ take at (now (out .entry)) ++ ((48 + x % 10) ∷ [])) ⌝ }
+    ensures { λ r. ⌜ Put (now (out .entry)) (now (out .exit)) at r 1 ((48 + x % 10) ∷ []) ⌝ }
 {
     put_byte(out, at, b'0' + (x % 10) as u8)
 }
 
 fn put_number(out: &mut [u8], at: usize, x: u32) -> usize
     requires { ⌜ at + length (decimal x) ≤ length (now out) ⌝ }
-    ensures { λ r. ⌜ (r ≡ at + length (decimal x)) × (take r (now (out .exit)) ≡ take at (now (out .entry)) ++ decimal x) ⌝ }
+    ensures { λ r. ⌜ Put (now (out .entry)) (now (out .exit)) at r (length (decimal x)) (decimal x) ⌝ }
 {
     if x < 10 {
         return put_digit(out, at, x);
@@ -72,14 +73,14 @@ pub fn put_field(out: &mut [u8], at: usize, x: u32, end: u8) -> usize
 
 // One number.
 pub fn number_line(out: &mut [u8; 128], x: u32) -> usize
-    ensures { λ r. ⌜ Lined (now (out .exit)) r (line (x ∷ [])) ⌝ }
+    ensures { λ r. ⌜ Lined (now (out .entry)) (now (out .exit)) r (line (x ∷ [])) ⌝ }
 {
     put_field(out, 0, x, b'\n')
 }
 
 // Two numbers.
 pub fn pair_line(out: &mut [u8; 128], x: u32, y: u32) -> usize
-    ensures { λ r. ⌜ Lined (now (out .exit)) r (line (x ∷ y ∷ [])) ⌝ }
+    ensures { λ r. ⌜ Lined (now (out .entry)) (now (out .exit)) r (line (x ∷ y ∷ [])) ⌝ }
 {
     let next = put_field(out, 0, x, b' ');
     put_field(out, next, y, b'\n')
@@ -87,7 +88,7 @@ pub fn pair_line(out: &mut [u8; 128], x: u32, y: u32) -> usize
 
 // `refused`, number, place.
 pub fn refused_line(out: &mut [u8; 128], number: u32, place: u32) -> usize
-    ensures { λ r. ⌜ Lined (now (out .exit)) r (refusedLine number place) ⌝ }
+    ensures { λ r. ⌜ Lined (now (out .entry)) (now (out .exit)) r (refusedLine number place) ⌝ }
 {
     let number_at = put_bytes(out, 0, b"refused ");
     let place_at = put_field(out, number_at, number, b' ');
@@ -96,7 +97,7 @@ pub fn refused_line(out: &mut [u8; 128], number: u32, place: u32) -> usize
 
 // Issuer, name, set, from, to.
 pub fn interval_line(out: &mut [u8; 128], role: u32, set: u32, from: u32, to: u32) -> usize
-    ensures { λ r. ⌜ Lined (now (out .exit)) r (intervalLine role set from to) ⌝ }
+    ensures { λ r. ⌜ Lined (now (out .entry)) (now (out .exit)) r (intervalLine role set from to) ⌝ }
 {
     let name_at = put_field(out, 0, role / 32, b' ');
     let set_at = put_field(out, name_at, role % 32, b' ');

@@ -1,8 +1,9 @@
 -- `put_number` writes the decimal of its number. It calls itself at a tenth of the number, which is the measure.
 use mathlib.Core.Path.{_∙_}
-use mathlib.Core.List.{append-assoc}
 use Prim.Native.Nat.{ℕ, _<_}
 use native.Mathlib.Omega.{arith}
+use lib.ListN.{length-append}
+use Rattle.text.proofs.Putting.{_then_, wider}
 use Rattle.text.proofs.Decimal.{decimal-digit, decimal-more, length-digit, length-more}
 use borrow.Fn.Kinds.{In}
 use borrow.Fn.PlainCycle.{Measures, is, falls, and}
@@ -38,7 +39,7 @@ returns t c =
     let a = c .before .before .before .before .before .before .args in
     let h = c .before .before .before .before .if1 .taken in
     let e = c .before .before .put-digit .ensures in
-    (omega (arith, e .0, length-digit (a .x) h), rw (decimal-digit (a .x) h) (e .1))
+    rw (decimal-digit (a .x) h) e
 
 put-number-requires : (t : ℕ) → lts.Need-put-number-requires (claims t) (given t) put-number.Post
 put-number-requires t c κs =
@@ -51,7 +52,7 @@ put-digit-requires-2 t c κs =
     let s = c .before .before .before .before .before .before .before in
     let h = c .before .before .before .before .before .if1 .left in
     let f = c .before .before .before .put-number in
-    omega (arith, s .pre .1, length-more (s .args .x) h (s .fits .x .fits), f .ensures .0, f .kept .0)
+    omega (arith, s .pre .1, length-more (s .args .x) h (s .fits .x .fits), f .ensures .count, f .kept .0)
 
 same-length-2 : (t : ℕ) → lts.Need-same-length-2 (claims t) (given t) put-number.Post
 same-length-2 t c =
@@ -62,10 +63,9 @@ returns-2 t c =
     let s = c .before .before .before .before .before .before .before .before .before .before in
     let h = c .before .before .before .before .before .before .before .before .if1 .left in
     let e = c .before .before .before .before .before .before .put-number .ensures in
-    let d = c .before .before .put-digit2 .ensures in (
-      omega (arith, e .0, d .0, length-more (s .args .x) h (s .fits .x .fits)),
-      rw (decimal-more (s .args .x) h (s .fits .x .fits), d .1, e .1, append-assoc),
-    )
+    let d = c .before .before .put-digit2 .ensures in
+    let k = s .fits .x .fits in
+    rw (decimal-more (s .args .x) h k) (wider (simp length-append (omega arith)) (e then d))
 
 pub +put-number-spec : {M : Type 1} → statement M
 +put-number-spec = close μ λ t. lts.spec (claims t)

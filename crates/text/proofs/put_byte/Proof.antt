@@ -1,7 +1,9 @@
 -- `put_byte` stores the byte after those that stand.
 use mathlib.Core.Path.{refl}
+use Prim.Native.Nat.{_+_}
 use native.Mathlib.Numerals.{add-one}
-use lib.Seq.{take-suc-set}
+use native.Mathlib.Omega.{arith}
+use lib.Seq.{take-suc-set, drop-set-lt}
 use borrow.Author.Needs.{needs}
 use Rattle.text.proofs.put_byte.Statement.{statement}
 use Rattle.text.proofs.put_byte.Tie as tie
@@ -16,7 +18,12 @@ same-length : tie.Need-same-length
 same-length c = search needs
 
 returns : tie.Need-returns
-returns c = (refl, rw (add-one, take-suc-set _ _ _ (c .pre)))
+returns c = record {
+  count = refl;
+  within = omega arith;
+  text = rw (add-one, take-suc-set _ _ _ (c .pre));
+  rest = drop-set-lt (c .args .at + 1) (c .args .out .now) (c .args .at) (c .args .b) (omega arith);
+}
 
 pub put-byte-spec : {M : Type 1} → statement M
 put-byte-spec = tie.close (tie.spec slice-write-out add-result same-length returns)

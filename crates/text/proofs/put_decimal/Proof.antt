@@ -1,6 +1,7 @@
 -- `put_decimal` writes at most ten digits.
 use native.Mathlib.Omega.{arith}
 use Rattle.text.proofs.Decimal.{decimal-length}
+use Rattle.text.proofs.Putting.{wider}
 use borrow.Author.Needs.{needs}
 use Rattle.text.proofs.put_decimal.Statement.{statement}
 use Rattle.text.proofs.put_decimal.Tie as tie
@@ -12,7 +13,8 @@ same-length : tie.Need-same-length
 same-length c = search needs
 
 returns : tie.Need-returns
-returns c = record { within = omega (arith, decimal-length (c .before .before .before .before .before .args .x), c .before .before .put-number .ensures .0); text = c .before .before .put-number .ensures .1 }
+returns c =
+    wider (decimal-length (c .before .before .before .before .before .args .x)) (c .before .before .put-number .ensures)
 
 pub put-decimal-spec : {M : Type 1} → statement M
 put-decimal-spec = tie.close (tie.spec put-number-requires same-length returns)

@@ -1,6 +1,5 @@
 -- `put_field` writes at most ten digits and one byte.
 use Rattle.text.proofs.Putting.{_then_}
-use native.Mathlib.Omega.{arith}
 use borrow.Author.Needs.{needs}
 use Rattle.text.proofs.put_field.Statement.{statement}
 use Rattle.text.proofs.put_field.Tie as tie
@@ -15,7 +14,7 @@ same-length : tie.Need-same-length
 same-length c = search needs
 
 returns : tie.Need-returns
-returns c = _then_ {n = 1} (c .before .before .before .before .before .before .put-decimal .ensures) (record { within = omega arith; text = c .before .before .put-byte .ensures .1 })
+returns c = c .before .before .before .before .before .before .put-decimal .ensures then c .before .before .put-byte .ensures
 
 pub put-field-spec : {M : Type 1} → statement M
 put-field-spec = tie.close (tie.spec put-decimal-requires put-byte-requires same-length returns)
