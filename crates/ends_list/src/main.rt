@@ -2,6 +2,7 @@
 ghost use mathlib.Core.Path.{_≡_};
 ghost use Prim.Native.Nat.{_≤_};
 ghost use lib.ListN.{length};
+use libc::STDERR_FILENO;
 use libc::STDIN_FILENO;
 use libc::STDOUT_FILENO;
 
@@ -51,6 +52,13 @@ fn print_ends(file: &[u8]) {
 }
 
 fn main() {
+    if 1 < os::arg_count() {
+        io::write_all(
+            STDERR_FILENO,
+            b"usage: ends_list < FILE\nFILE is a credentials file. Prints how many ends its periods have, then each.\n",
+        );
+        return;
+    }
     let mut buffer = room();
     let n = io::read_full(STDIN_FILENO, &mut buffer);
     print_ends(&buffer[..n]);

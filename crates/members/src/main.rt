@@ -4,6 +4,7 @@ ghost use mathlib.Core.Path.{_≡_};
 ghost use Prim.Native.Nat.{_≤_};
 ghost use lib.ListN.{length};
 use completing::Completed;
+use libc::STDERR_FILENO;
 use libc::STDIN_FILENO;
 use libc::STDOUT_FILENO;
 
@@ -100,6 +101,13 @@ fn print_members(file: &[u8]) {
 }
 
 fn main() {
+    if 1 < os::arg_count() {
+        io::write_all(
+            STDERR_FILENO,
+            b"usage: members < FILE\nFILE is a credentials file. Prints how many memberships it has, then each interval: issuer, name, set, from, to.\n",
+        );
+        return;
+    }
     let mut buffer = room();
     let n = io::read_full(STDIN_FILENO, &mut buffer);
     print_members(&buffer[..n]);
