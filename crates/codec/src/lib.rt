@@ -51,19 +51,6 @@ pub fn decode32(dst: &mut [u32], src: &[u8], n: usize)
     }
 }
 
-// The first n entries of 8 bytes, into the first n places.
-pub fn decode64(dst: &mut [u64], src: &[u8], n: usize)
-    requires { ⌜ (n ≤ length (now dst)) × (8 * n ≤ length (now src)) ⌝ }
-    ensures { λ _. ⌜ now (dst .exit) ≡ firstEntries 8 n (now (src .entry)) ++ drop n (now (dst .entry)) ⌝ }
-{
-    let mut i = 0;
-    while i < n {
-        let at = 8 * i;
-        dst[i] = get(&src[at..at + 8]);
-        i += 1;
-    }
-}
-
 // Each entry as 4 bytes.
 pub fn encode32(dst: &mut [u8], src: &[u32])
     requires { ⌜ length (now dst) ≡ 4 * length (now src) ⌝ }
