@@ -1,34 +1,50 @@
-/* Runs each call on set P with lists of 1,024 entries, on a stack of its own that was filled with a pattern, and prints how many
-   bytes of the stack it wrote. Fails where that is more than RTT_STACK. */
+/* Measures the stack that each call takes with lists of 1,024 entries.
+
+   Arguments: the bytes of stack that include/rtt.h gives for completing, querying and checking; then for each case FILE
+   ROLE SET MINUTE and the refusal numbers that completing and querying answer, 0 where they refuse nothing. Where
+   querying hands out a proof, it is checked.
+
+   Each call runs on a stack of its own that was filled with a pattern. Prints the most bytes that each call wrote there,
+   and what the header gives. Fails where that is less, where it is more than RTT_STACK, and where another number is
+   answered. */
+#include <inttypes.h>
 #include <stdio.h>
+#include <stdlib.h>
 #include <string.h>
 #include <ucontext.h>
 
-#include "p.h"
 #include "rtt.h"
 
 enum { ROOM = 1 << 20, PATTERN = 0xa5 };
+enum { COMPLETE, QUERY, CHECK, CALLS };
+
+static const char *const names[CALLS] = {"complete", "query", "check"};
+static size_t most[CALLS];
 
 static uint8_t room[ROOM] __attribute__((aligned(64)));
+static ucontext_t here, there;
+
+static uint8_t file[4103];
+static size_t length;
+static uint32_t role, set, minute, steps;
 static uint8_t a[4 * RTT_ENTRIES], b[4 * RTT_ENTRIES], c[4 * RTT_ENTRIES], d[4 * RTT_ENTRIES], s[8 * RTT_ENTRIES];
 static uint64_t reply;
-static ucontext_t here, there;
 
 static void nothing(void) {}
 
 static void complete(void)
 {
-    reply = rtt_complete(P, sizeof P, a, sizeof a, b, sizeof b, s, sizeof s);
+    reply = rtt_complete(file, length, a, sizeof a, b, sizeof b, s, sizeof s);
 }
 
 static void query(void)
 {
-    reply = rtt_query(P, sizeof P, 1, 6, 15, a, sizeof a, b, sizeof b, c, sizeof c, d, sizeof d);
+    reply = rtt_query(file, length, role, set, minute, a, sizeof a, b, sizeof b, c, sizeof c, d, sizeof d);
 }
 
 static void check(void)
 {
-    reply = rtt_check(P, sizeof P, 1, 6, 15, a, sizeof a, b, sizeof b, c, sizeof c, d, sizeof d, rtt_steps(reply));
+    reply = rtt_check(file, length, role, set, minute, a, sizeof a, b, sizeof b, c, sizeof c, d, sizeof d, steps);
 }
 
 static size_t used_by(void (*call)(void))
@@ -46,17 +62,53 @@ static size_t used_by(void (*call)(void))
     return sizeof room - i;
 }
 
-static int measure(const char *name, void (*call)(void))
+static int measure(int name, void (*call)(void), uint32_t number)
 {
     size_t used = used_by(call) - used_by(nothing);
-    printf("%s %zu\n", name, used);
-    return used > RTT_STACK || rtt_number(reply) != 0;
+    if (used > most[name])
+        most[name] = used;
+    if (rtt_number(reply) == number)
+        return 0;
+    fprintf(stderr, "stack: %s answered number %" PRIu32 ", not %" PRIu32 "\n", names[name], rtt_number(reply), number);
+    return 1;
 }
 
-int main(void)
+static uint32_t number(const char *text)
 {
-    int bad = measure("complete", complete);
-    bad |= measure("query", query);
-    bad |= measure("check", check);
+    return (uint32_t)strtoul(text, NULL, 10);
+}
+
+static int measure_case(char **argument)
+{
+    FILE *from = fopen(argument[0], "rb");
+    if (from == NULL) {
+        perror(argument[0]);
+        return 1;
+    }
+    length = fread(file, 1, sizeof file, from);
+    fclose(from);
+    role = number(argument[1]);
+    set = number(argument[2]);
+    minute = number(argument[3]);
+    int bad = measure(COMPLETE, complete, number(argument[4]));
+    bad |= measure(QUERY, query, number(argument[5]));
+    steps = rtt_steps(reply);
+    if (rtt_number(reply) == 0)
+        bad |= measure(CHECK, check, 0);
+    return bad;
+}
+
+int main(int count, char **argument)
+{
+    int bad = count < 10 || (count - 4) % 6 != 0;
+    for (int i = 4; i + 5 < count; i += 6)
+        bad |= measure_case(argument + i);
+    if (bad)
+        return 1;
+    for (int name = 0; name < CALLS; name++) {
+        size_t given = number(argument[1 + name]);
+        printf("%s %zu of %zu\n", names[name], most[name], given);
+        bad |= most[name] > given || given > RTT_STACK;
+    }
     return bad;
 }
