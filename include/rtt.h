@@ -133,7 +133,7 @@ uint64_t rtt_query(const uint8_t *file, size_t file_length,
    file                              the bytes of a credentials file, read
    role, set, minute                 the membership, and when it is to hold
    credential, first, second, sets   4 bytes an entry, read: the words of the proof's steps
-   steps                             how many steps the proof has, at most L; further entries may hold anything
+   steps                             how many steps the proof has, 1 to L; further entries may hold anything
 
    Returns the proof's level. Refuses with 1 to 9, 11, 12 and 14 to 16.  */
 uint64_t rtt_check(const uint8_t *file, size_t file_length,
