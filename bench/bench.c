@@ -1,0 +1,288 @@
+/* Makes the calls of include/rtt.h on one credentials file, by the library or by the yardstick.
+
+     bench FILE ask                       role, set, minute of the deepest membership, a set that its role does not have, level, steps
+     bench FILE steps N                   the same for the membership whose proof is nearest to N steps at minute 0
+     bench FILE agree QUESTION [WHOSE]    compares the library with the yardstick, or with this part of it; prints the number
+                                          of comparisons
+     bench FILE time QUESTION SECONDS CALL WHOSE     reply and least time of repeated calls, in microseconds
+     bench FILE once QUESTION CALL WHOSE ...         each call once, in `measured`
+
+   QUESTION is ROLE SET MINUTE ABSENT; CALL is complete, query, absent (a query of the absent set) or check; WHOSE is
+   rtt, plain or grouped. */
+#include <stdio.h>
+#include <stdlib.h>
+#include <string.h>
+#include <time.h>
+
+#include "plain.h"
+#include "rtt.h"
+
+enum { BYTES = 4 * RTT_ENTRIES };
+
+struct lists {
+    uint8_t a[BYTES], b[BYTES], c[BYTES], d[BYTES], wide[2 * BYTES];
+};
+
+static uint8_t file[6 + 16 * 256 + 1];
+static size_t length;
+
+static struct question {
+    uint32_t role, set, minute, absent;
+} asked;
+
+typedef uint64_t completing(const uint8_t *, size_t, uint8_t *, size_t, uint8_t *, size_t, uint8_t *, size_t);
+typedef uint64_t querying(const uint8_t *, size_t, uint32_t, uint32_t, uint32_t, uint8_t *, size_t, uint8_t *, size_t,
+                          uint8_t *, size_t, uint8_t *, size_t);
+typedef uint64_t checking(const uint8_t *, size_t, uint32_t, uint32_t, uint32_t, const uint8_t *, size_t, const uint8_t *,
+                          size_t, const uint8_t *, size_t, const uint8_t *, size_t, uint64_t);
+
+static struct one {
+    const char *name;
+    completing *complete;
+    querying *query;
+    checking *check;
+} ones[] = {
+    {"rtt", rtt_complete, rtt_query, rtt_check},
+    {"plain", plain_complete, plain_query, plain_check},
+    {"grouped", grouped_complete, grouped_query, plain_check},
+};
+
+static uint64_t complete(const struct one *o, struct lists *l, size_t entries)
+{
+    return o->complete(file, length, l->a, 4 * entries, l->b, 4 * entries, l->wide, 8 * entries);
+}
+
+static uint64_t query(const struct one *o, struct lists *l, uint32_t role, uint32_t set, uint32_t minute)
+{
+    return o->query(file, length, role, set, minute, l->a, BYTES, l->b, BYTES, l->c, BYTES, l->d, BYTES);
+}
+
+static uint64_t check(const struct one *o, const struct lists *l, uint32_t role, uint32_t set, uint32_t minute, uint64_t steps)
+{
+    return o->check(file, length, role, set, minute, l->a, BYTES, l->b, BYTES, l->c, BYTES, l->d, BYTES, steps);
+}
+
+/* What is timed and counted; a check is lent the proof that stands in the lists. */
+static struct lists work;
+static uint64_t steps;
+
+__attribute__((noinline)) uint64_t measured(const struct one *o, int call)
+{
+    switch (call) {
+    case 'c':
+        return complete(o, &work, RTT_ENTRIES);
+    case 'q':
+        return query(o, &work, asked.role, asked.set, asked.minute);
+    case 'a':
+        return query(o, &work, asked.role, asked.absent, asked.minute);
+    default:
+        return check(o, &work, asked.role, asked.set, asked.minute, steps);
+    }
+}
+
+static const struct one *one_called(const char *name)
+{
+    for (size_t i = 0; i < sizeof ones / sizeof *ones; i++)
+        if (!strcmp(name, ones[i].name))
+            return &ones[i];
+    fprintf(stderr, "bench: no %s\n", name);
+    exit(2);
+}
+
+/* First letters differ: complete, query, absent; check is 'k'. */
+static int call_called(const char *name)
+{
+    int call = strcmp(name, "check") ? name[0] : 'k';
+    if (call == 'k')
+        steps = rtt_steps(query(one_called("grouped"), &work, asked.role, asked.set, asked.minute));
+    return call;
+}
+
+/* Processor time: other programs on the machine do not count. */
+static double now(void)
+{
+    struct timespec t;
+    clock_gettime(CLOCK_PROCESS_CPUTIME_ID, &t);
+    return t.tv_sec + t.tv_nsec * 1e-9;
+}
+
+/* ---- agreement ---- */
+
+static int compared, parts = 3;
+
+static void same(int holds, const char *what)
+{
+    compared++;
+    if (!holds) {
+        printf("differs: %s\n", what);
+        exit(1);
+    }
+}
+
+/* Returns the library's reply and leaves its lists in had[0]. */
+static struct lists had[3];
+
+static uint64_t agree_completing(size_t entries)
+{
+    uint64_t reply[3] = {0};
+    for (int i = 0; i < parts; i++) {
+        memset(&had[i], 0x5A, sizeof had[i]);
+        reply[i] = complete(&ones[i], &had[i], entries);
+        same(reply[i] == reply[0], "reply of completing");
+        same(!memcmp(&had[i], &had[0], sizeof had[i]), "lists of completing");
+    }
+    return reply[0];
+}
+
+static void agree_checking(struct lists *l, uint32_t role, uint32_t set, uint32_t minute, uint32_t count, uint32_t level)
+{
+    same(check(&ones[0], l, role, set, minute, count) == level, "level of checking");
+    same(check(&ones[1], l, role, set, minute, count) == level, "level of the yardstick's checking");
+    uint8_t *list[] = {l->a, l->b, l->c, l->d};
+    for (uint32_t i = 0; i < count; i += 1 + count / 7)
+        for (int k = 0; k < 4; k++) {
+            uint8_t *byte = &list[k][4 * i];
+            *byte ^= 1;
+            same(check(&ones[0], l, role, set, minute, count) == check(&ones[1], l, role, set, minute, count),
+                 "checking of a changed proof");
+            *byte ^= 1;
+        }
+}
+
+static void agree_querying(uint32_t role, uint32_t set, uint32_t minute)
+{
+    static struct lists proof;
+    uint64_t first = 0;
+    for (int i = 0; i < parts; i++) {
+        memset(&proof, 0xA5, sizeof proof);
+        uint64_t reply = query(&ones[i], &proof, role, set, minute);
+        if (i == 0)
+            first = reply;
+        if (rtt_number(first))
+            same(reply == first, "refusal of querying");
+        else
+            same(!rtt_number(reply) && rtt_level(reply) == rtt_level(first), "level of querying");
+        if (!rtt_number(reply))
+            agree_checking(&proof, role, set, minute, rtt_steps(reply), rtt_level(reply));
+    }
+}
+
+/* The deepest membership, an absent one, and memberships of the table, while there is time. */
+static void agree(void)
+{
+    static struct lists table;
+    double start = now(), enough = 0.3;
+    uint64_t count = agree_completing(RTT_ENTRIES);
+    table = had[0];
+    agree_querying(asked.role, asked.set, asked.minute);
+    agree_querying(asked.role, asked.absent, asked.minute);
+    for (size_t entries = 1; entries < RTT_ENTRIES && now() - start < enough; entries += 1 + entries / 2)
+        agree_completing(entries);
+    if (rtt_number(count))
+        return;
+    for (uint64_t i = 0; i < count && now() - start < enough; i += 1 + count / 50) {
+        uint32_t role, set, minute;
+        memcpy(&role, table.a + 4 * i, 4);
+        memcpy(&set, table.b + 4 * i, 4);
+        agree_querying(role, set, asked.minute);
+        const uint8_t *period = file + length - 8 * (1 + i % (length / 16));
+        memcpy(&minute, period, 4);
+        agree_querying(role, set, minute);
+        memcpy(&minute, period + 4, 4);
+        agree_querying(role, set, minute);
+    }
+}
+
+/* ---- questions ---- */
+
+static void say_question(uint32_t role, uint32_t set, uint32_t minute)
+{
+    const struct one *o = one_called("grouped");
+    uint64_t reply = query(o, &work, role, set, minute);
+    uint32_t entities = file[0], absent = (uint32_t)((1ull << entities) - 1);
+    while (absent && !rtt_number(query(o, &work, role, absent, minute)))
+        absent--;
+    printf("%u %u %u %u %u %u\n", role, set, minute, absent ? absent : 1, rtt_number(reply) ? 0 : rtt_level(reply),
+           rtt_number(reply) ? 0 : rtt_steps(reply));
+}
+
+static void ask(void)
+{
+    uint32_t role = file[7] * 32u + file[8], set = 1, minute = 0;
+    plain_deepest(file, length, &role, &set, &minute);
+    say_question(role, set, minute);
+}
+
+static void ask_steps(uint32_t wanted)
+{
+    static struct lists table;
+    const struct one *o = one_called("grouped");
+    uint64_t count = complete(o, &table, RTT_ENTRIES);
+    uint32_t role = 0, set = 0, best = UINT32_MAX;
+    for (uint64_t i = 0; !rtt_number(count) && i < count; i++) {
+        uint32_t r, s;
+        memcpy(&r, table.a + 4 * i, 4);
+        memcpy(&s, table.b + 4 * i, 4);
+        uint64_t reply = query(o, &work, r, s, 0);
+        uint32_t n = rtt_steps(reply), away = n > wanted ? n - wanted : wanted - n;
+        if (!rtt_number(reply) && away < best) {
+            best = away;
+            role = r;
+            set = s;
+        }
+    }
+    say_question(role, set, 0);
+}
+
+int main(int n, char **v)
+{
+    FILE *f = n > 2 ? fopen(v[1], "rb") : NULL;
+    if (!f)
+        return 2;
+    length = fread(file, 1, sizeof file, f);
+    fclose(f);
+    const char *mode = v[2];
+    if (!strcmp(mode, "ask")) {
+        ask();
+        return 0;
+    }
+    if (!strcmp(mode, "steps") && n > 3) {
+        ask_steps(strtoul(v[3], NULL, 10));
+        return 0;
+    }
+    if (n < 7)
+        return 2;
+    asked = (struct question){strtoul(v[3], NULL, 10), strtoul(v[4], NULL, 10), strtoul(v[5], NULL, 10), strtoul(v[6], NULL, 10)};
+    if (!strcmp(mode, "agree")) {
+        if (n > 7) {
+            ones[1] = *one_called(v[7]);
+            parts = 2;
+        }
+        agree();
+        printf("%d\n", compared);
+    } else if (!strcmp(mode, "time") && n > 9) {
+        double seconds = atof(v[7]), best;
+        int call = call_called(v[8]);
+        const struct one *o = one_called(v[9]);
+        double start = now();
+        uint64_t reply = measured(o, call);
+        best = now() - start;
+        while (now() - start < seconds) {
+            double t = now();
+            measured(o, call);
+            t = now() - t;
+            if (t < best)
+                best = t;
+        }
+        printf("%llu %.3f\n", (unsigned long long)reply, best * 1e6);
+    } else if (!strcmp(mode, "once")) {
+        for (int i = 7; i + 1 < n; i += 2) {
+            int call = call_called(v[i]);
+            const struct one *o = one_called(v[i + 1]);
+            measured(o, call);
+        }
+    } else {
+        return 2;
+    }
+    return 0;
+}

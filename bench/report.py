@@ -1,0 +1,309 @@
+#!/usr/bin/env python3
+"""Measures the library against the yardstick; called by bench/run.
+
+report.py DIR table|doc|quick|limits     DIR has the program `bench` and the folder `files`
+
+table   everything, as tables on standard output       doc     the same, written into docs/BENCHMARKS.md
+quick   agreement, times and, with valgrind, instructions against bench/limits      limits   writes bench/limits"""
+import json
+import os
+import re
+import shutil
+import subprocess
+import sys
+
+sys.dont_write_bytecode = True
+import files
+
+HERE = os.path.dirname(os.path.abspath(__file__))
+DIR, MODE = sys.argv[1:3]
+PROGRAM = f'{DIR}/bench'
+CALLS = 'complete', 'query', 'absent', 'check'
+SECOND = 1e6                # a call may take no longer, in microseconds
+MARGIN = 1.15               # of a limit over the ratio that was measured
+VALGRIND = shutil.which('valgrind')
+SWIPL = shutil.which('swipl')
+# Valgrind counts a `rep stos` once for each byte or word: the C library is told to clear and copy with vectors.
+TUNABLES = 'glibc.cpu.x86_rep_stosb_threshold=100000000:glibc.cpu.x86_rep_movsb_threshold=100000000'
+
+
+def run(command, seconds=None):
+    """What a command prints, or None when it takes longer."""
+    try:
+        done = subprocess.run(command, capture_output=True, text=True, timeout=seconds)
+    except subprocess.TimeoutExpired:
+        return None
+    if done.returncode:
+        sys.exit(f'bench: {" ".join(command)}: {done.stdout}{done.stderr}')
+    return done.stdout
+
+
+def path(name):
+    return f'{DIR}/files/{name}'
+
+
+def question(name, *how):
+    """Role, set, minute, absent set; level; steps."""
+    w = run([PROGRAM, path(name), *(how or ['ask'])]).split()
+    return w[:4], int(w[4]), int(w[5])
+
+
+def timed(name, asked, call, whose, seconds, cap):
+    """Reply and microseconds, or None above the cap."""
+    out = run([PROGRAM, path(name), 'time', *asked, str(seconds), call, whose], cap)
+    return out and (int(out.split()[0]), float(out.split()[1]))
+
+
+def counted(name, asked, pairs):
+    """Instructions of each (call, whose)."""
+    if not VALGRIND or not pairs:
+        return {}
+    out = f'{DIR}/callgrind'
+    shutil.rmtree(out, ignore_errors=True)
+    os.makedirs(out)
+    subprocess.run([VALGRIND, '--tool=callgrind', '--toggle-collect=measured', '--dump-after=measured',
+                    f'--callgrind-out-file={out}/c', PROGRAM, path(name), 'once', *asked, *[w for p in pairs for w in p]],
+                   check=True, capture_output=True, env={**os.environ, 'GLIBC_TUNABLES': TUNABLES, 'LD_BIND_NOW': '1'})
+    counts = []
+    for i in range(1, len(pairs) + 1):
+        with open(f'{out}/c.{i}') as f:
+            counts.append(int(re.search(r'^totals: (\d+)', f.read(), re.M).group(1)))
+    return dict(zip(pairs, counts))
+
+
+def tabled(name, when):
+    """Memberships and microseconds of the Prolog program, or None."""
+    out = run([SWIPL, '-O', f'{HERE}/tabling.pl', path(name), when], 20)
+    return out and (int(out.split()[0]), float(out.split()[1]))
+
+
+def yardsticks(call):
+    return ('grouped',) if call == 'check' else ('plain', 'grouped')
+
+
+def measure(name, seconds, count_below, with_plain):
+    """All calls on one file."""
+    asked, level, steps = question(name)
+    r = {'level': level, 'steps': steps, 'time': {}, 'instructions': {}, 'reply': {}}
+    r['compared'] = int(run([PROGRAM, path(name), 'agree', *asked, *([] if with_plain else ['grouped'])]))
+    pairs = []
+    for call in CALLS:
+        if call == 'check' and not steps:
+            continue
+        for whose in ('rtt', *yardsticks(call)):
+            if whose == 'plain' and not with_plain:
+                continue
+            t = timed(name, asked, call, whose, seconds, 60)
+            key = f'{call} {whose}'
+            r['time'][key] = t and t[1]
+            r['reply'][key] = t and t[0]
+            if t and t[1] < count_below:
+                pairs.append((call, whose))
+    r['instructions'] = {' '.join(k): v for k, v in counted(name, asked, pairs).items()}
+    return r, asked
+
+
+# ---- the whole measurement ----
+
+def whole():
+    results = {}
+    for name in (*files.HONEST, *files.HOSTILE):
+        r, asked = measure(name, 0.2, SECOND, True)
+        if SWIPL:
+            r['tabling'] = {'spans': tabled(name, 'spans'), 'minute': tabled(name, asked[2])}
+        results[name] = r
+        print(f'bench: {name}', file=sys.stderr, flush=True)
+    lengths = {}
+    for steps in (10, 100, 1000):
+        asked, level, got = question('deep', 'steps', str(steps))
+        pairs = [('check', 'rtt'), ('check', 'grouped')]
+        lengths[got] = {'instructions': {' '.join(k): v for k, v in counted('deep', asked, pairs).items()},
+                        'time': {w: timed('deep', asked, 'check', w, 0.2, 60)[1] for w in ('rtt', 'grouped')}}
+    out = {'files': results, 'lengths': lengths}
+    with open(f'{DIR}/results.json', 'w') as f:
+        json.dump(out, f, indent=1)
+    return out
+
+
+def number(x):
+    return '' if x is None else f'{x:,}'
+
+
+def time(us, cap='> 60 s'):
+    if us is None:
+        return cap
+    return f'{us:.1f} µs' if us < 1e3 else f'{us / 1e3:.1f} ms' if us < 1e6 else f'{us / 1e6:.1f} s'
+
+
+def rows(head, body):
+    return '\n'.join(['| ' + ' | '.join(map(str, x)) + ' |' for x in (head, ['---'] * len(head), *body)]) + '\n'
+
+
+def best(r, call, what):
+    """The better yardstick's figure."""
+    had = [r[what].get(f'{call} {w}') for w in yardsticks(call)]
+    return min((x for x in had if x is not None), default=None)
+
+
+def ratio(r, call, of=None):
+    """Instructions of the library over those of a yardstick; of the times where either was not counted."""
+    for what, mark in (('instructions', ''), ('time', ' (time)')):
+        ours = r[what].get(f'{call} rtt')
+        theirs = r[what].get(f'{call} {of}') if of else best(r, call, what)
+        if ours is not None and theirs is not None:
+            return ours / theirs, mark
+    return None, ''
+
+
+def shown(pair):
+    return '' if pair[0] is None else f'{pair[0]:.2f}{pair[1]}'
+
+
+def reply(r, call):
+    x = r['reply'].get(f'{call} rtt')
+    if x is None:
+        return ''
+    return f'refused {x >> 32}' if x >> 32 else f'{x & 65535} steps, level {x >> 16}' if call == 'query' else str(x)
+
+
+def tables(out):
+    every = out['files']
+    text = []
+
+    def part(title, note=''):
+        text.append(f'\n### {title}\n')
+        if note:
+            text.append(note + '\n')
+    part('Completing', 'Instructions of one call.')
+    text.append(rows(
+        ['file', 'reply', 'library', 'plain', 'grouped', 'library / plain', 'library / better'],
+        [[n, reply(r, 'complete'), *[number(r['instructions'].get(f'complete {w}')) for w in ('rtt', 'plain', 'grouped')],
+          shown(ratio(r, 'complete', 'plain')), shown(ratio(r, 'complete'))] for n, r in every.items()]))
+    for call, title in (('query', 'Querying the deepest membership'), ('absent', 'Querying a set that the role does not have')):
+        part(title, 'Instructions of one call.')
+        text.append(rows(
+            ['file', 'reply', 'library', 'plain', 'grouped', 'library / plain', 'library / better'],
+            [[n, reply(r, call), *[number(r['instructions'].get(f'{call} {w}')) for w in ('rtt', 'plain', 'grouped')],
+              shown(ratio(r, call, 'plain')), shown(ratio(r, call))] for n, r in every.items()]))
+    part('Checking the proof of the deepest membership', 'Instructions of one call.')
+    text.append(rows(
+        ['file', 'steps', 'library', 'plain', 'library / plain'],
+        [[n, r['steps'], number(r['instructions'].get('check rtt')), number(r['instructions'].get('check grouped')),
+          shown(ratio(r, 'check'))] for n, r in every.items() if r['steps']]))
+    part('Checking by length of the proof', 'Proofs of memberships of `deep`, one call.')
+    at = {int(k): v for k, v in out['lengths'].items()}
+    body = []
+    for k, v in sorted(at.items()):
+        i, t = v['instructions'], v['time']
+        body.append([k, number(i.get('check rtt')), number(i.get('check grouped')), time(t['rtt']), time(t['grouped'])])
+    text.append(rows(['steps', 'library, instructions', 'plain, instructions', 'library, time', 'plain, time'], body))
+    low, high = min(at), max(at)
+    if at[low]['instructions']:
+        slope = [(at[high]['instructions'][f'check {w}'] - at[low]['instructions'][f'check {w}']) / (high - low) for w in ('rtt', 'grouped')]
+        text.append(f'Each further step costs {slope[0]:.0f} instructions, {slope[1]:.0f} in the yardstick.\n')
+    part('Times', 'Least of repeated calls in one run.')
+    text.append(rows(
+        ['file', 'complete', 'plain', 'grouped', 'query', 'plain', 'grouped', 'absent', 'check', 'plain'],
+        [[n, *[time(r['time'].get(f'complete {w}')) for w in ('rtt', 'plain', 'grouped')],
+          *[time(r['time'].get(f'query {w}')) for w in ('rtt', 'plain', 'grouped')], time(r['time'].get('absent rtt')),
+          *[time(r['time'].get(f'check {w}'), '') for w in ('rtt', 'grouped')]] for n, r in every.items()]))
+    if any('tabling' in r for r in every.values()):
+        part('SWI-Prolog with tabling', 'Processor time of a second evaluation, without start and reading. '
+             'The Prolog program finds the memberships and no proofs.')
+        body = []
+        for n, r in every.items():
+            if 'tabling' not in r:
+                continue
+            cells = []
+            for k, call in (('spans', 'complete'), ('minute', 'query')):
+                t = r['tabling'][k]
+                ours = r['time'].get(f'{call} rtt')
+                cells += [time(t and t[1], '> 20 s'), time(ours), f'{t[1] / ours:,.0f}' if t and ours else '']
+                refused = (r['reply'][f'{call} rtt'] or 0) >> 32
+                if t and call == 'complete' and not refused and t[0] != r['reply']['complete rtt']:
+                    sys.exit(f'bench: Prolog has {t[0]} memberships on {n}')
+            body.append([n, *cells])
+        text.append(rows(['file', 'all spans', 'rtt_complete', 'times', 'one minute', 'rtt_query', 'times'], body))
+    part('Summary')
+    body = []
+    honest = [every[n] for n in files.HONEST]
+    hostile = [every[n] for n in files.HOSTILE]
+    for what, rs, call, of, goal in (
+            ('completing, honest files, against plain', honest, 'complete', 'plain', 1.5),
+            ('completing, hostile files, against the better', hostile, 'complete', None, 2),
+            ('querying, honest files, against plain', honest, 'query', 'plain', 2),
+            ('querying, hostile files, against the better', hostile, 'query', None, 2),
+            ('querying an absent set, honest files, against plain', honest, 'absent', 'plain', 2),
+            ('querying an absent set, hostile files, against the better', hostile, 'absent', None, 2)):
+        had = [(ratio(r, call, of)[0], n) for n, r in every.items() if r in rs and ratio(r, call, of)[0] is not None]
+        over = [n for x, n in had if x > goal]
+        body.append([what, f'{min(had)[0]:.2f} to {max(had)[0]:.2f} (`{max(had)[1]}`)', goal,
+                     'met' if not over else f'missed on {len(over)} of {len(had)}: ' + ', '.join(over)])
+    slowest = max(((r['time'][f'{c} rtt'], n, c) for n, r in every.items() for c in CALLS if r['time'].get(f'{c} rtt')))
+    body.append(['longest call of the library', f'{time(slowest[0])} (`{slowest[1]}`, {slowest[2]})', '1 s',
+                 'met' if slowest[0] < SECOND else 'missed'])
+    text.append(rows(['what', 'ratio', 'goal', ''], body))
+    text.append(f'Comparisons of replies and lists between library and yardstick: {sum(r["compared"] for r in every.values()):,}, no difference.\n')
+    return '\n'.join(text)
+
+
+# ---- the gate's part ----
+
+def ratios(name, asked, calls):
+    """Instructions of the library over those of the grouped yardstick."""
+    got = counted(name, asked, [(c, w) for c in calls for w in ('rtt', 'grouped')])
+    return {c: got[c, 'rtt'] / got[c, 'grouped'] for c in calls} if got else {}
+
+
+def quick():
+    allowed = {}
+    with open(f'{HERE}/limits') as f:
+        for w in (line.split() for line in f if line[0] != '#'):
+            allowed.setdefault(w[0], {})[w[1]] = float(w[2])
+    bad, compared, held = [], 0, 0
+    for name in (*files.HONEST, *files.HOSTILE):
+        asked, _, steps = question(name)
+        compared += int(run([PROGRAM, path(name), 'agree', *asked, 'grouped']))
+        for call in CALLS[:4 if steps else 3]:
+            took = min(timed(name, asked, call, 'rtt', 0, None)[1] for _ in range(2))
+            if took > SECOND:
+                bad.append(f'{call} {name}: {time(took)}')
+        for call, x in ratios(name, asked, list(allowed.get(name, {}))).items():
+            held += 1
+            if x > allowed[name][call]:
+                bad.append(f'{call} {name}: {x:.2f} times the yardstick, limit {allowed[name][call]:.2f}')
+    for line in bad:
+        print(f'bench: {line}')
+    if bad:
+        sys.exit(1)
+    said = f'{held} ratios within their limits' if VALGRIND else 'no valgrind, instructions not counted'
+    print(f'bench: {compared} comparisons with the yardstick, no call above a second, {said}')
+
+
+def write_limits():
+    """A limit for each call that is short enough for the gate to count it."""
+    lines = ['# Instructions of the library over those of the grouped yardstick, at most; written by `bench/run limits`.']
+    for name in (*files.HONEST, *files.HOSTILE):
+        asked, _, steps = question(name)
+        calls = [c for c in CALLS[:4 if steps else 3] if all(timed(name, asked, c, w, 0.05, 60)[1] < 4e3 for w in ('rtt', 'grouped'))]
+        lines += [f'{name} {c} {x * MARGIN:.2f}' for c, x in ratios(name, asked, calls).items()]
+    with open(f'{HERE}/limits', 'w') as f:
+        f.write('\n'.join(lines) + '\n')
+
+
+if MODE == 'table':
+    print(tables(whole()))
+elif MODE == 'doc':
+    page = f'{HERE}/../docs/BENCHMARKS.md'
+    with open(page) as f:
+        text = f.read()
+    start, end = '<!-- measured: start -->\n', '<!-- measured: end -->\n'
+    before, after = text.split(start)[0], text.split(end)[1]
+    with open(page, 'w') as f:
+        f.write(before + start + tables(whole()) + end + after)
+elif MODE == 'quick':
+    quick()
+elif MODE == 'limits':
+    write_limits()
+else:
+    sys.exit(__doc__)
