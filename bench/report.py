@@ -71,6 +71,32 @@ def counted(name, asked, pairs):
     return dict(zip(pairs, counts))
 
 
+def by_function(name, asked, call):
+    """Instructions of one call of the library in each function that the compiler kept apart."""
+    if not counted(name, asked, [(call, 'rtt')]):
+        return {}
+    names, costs, function, inclusive = {}, {}, None, False
+    with open(f'{DIR}/callgrind/c.1') as f:
+        for line in f:
+            label = re.match(r'(c?fn)=(\(\d+\))(?: (.*))?', line)
+            if label:
+                if label[3]:
+                    names[label[2]] = label[3]
+                if label[1] == 'fn':
+                    function = names[label[2]]
+            elif line.startswith('calls='):
+                inclusive = True
+            elif re.match(r'[\d+*-]', line):
+                if not inclusive:
+                    costs[function] = costs.get(function, 0) + int(line.split()[1])
+                inclusive = False
+    parts = {}
+    for function, cost in costs.items():
+        kept = function if '::' in function or function.startswith('rtt_') else 'clearing and copying (C library)'
+        parts[kept] = parts.get(kept, 0) + cost
+    return parts
+
+
 def tabled(name, when):
     """Memberships and microseconds of the Prolog program, or None."""
     out = run([SWIPL, '-O', f'{HERE}/tabling.pl', path(name), when], 20)
@@ -81,23 +107,18 @@ def yardsticks(call):
     return ('grouped',) if call == 'check' else ('plain', 'grouped')
 
 
-def measure(name, seconds, count_below, with_plain):
-    """All calls on one file."""
+def measure(name):
+    """All calls on one file. Long calls are timed and not counted."""
     asked, level, steps = question(name)
-    r = {'level': level, 'steps': steps, 'time': {}, 'instructions': {}, 'reply': {}}
-    r['compared'] = int(run([PROGRAM, path(name), 'agree', *asked, *([] if with_plain else ['grouped'])]))
+    r = {'level': level, 'steps': steps, 'time': {}, 'reply': {}}
+    r['compared'] = int(run([PROGRAM, path(name), 'agree', *asked]))
     pairs = []
-    for call in CALLS:
-        if call == 'check' and not steps:
-            continue
+    for call in CALLS[:4 if steps else 3]:
         for whose in ('rtt', *yardsticks(call)):
-            if whose == 'plain' and not with_plain:
-                continue
-            t = timed(name, asked, call, whose, seconds, 60)
-            key = f'{call} {whose}'
-            r['time'][key] = t and t[1]
-            r['reply'][key] = t and t[0]
-            if t and t[1] < count_below:
+            t = timed(name, asked, call, whose, 0.2, 60)
+            r['time'][f'{call} {whose}'] = t and t[1]
+            r['reply'][f'{call} {whose}'] = t and t[0]
+            if t and t[1] < (SECOND / 20 if whose == 'plain' else SECOND / 2):
                 pairs.append((call, whose))
     r['instructions'] = {' '.join(k): v for k, v in counted(name, asked, pairs).items()}
     return r, asked
@@ -108,7 +129,7 @@ def measure(name, seconds, count_below, with_plain):
 def whole():
     results = {}
     for name in (*files.HONEST, *files.HOSTILE):
-        r, asked = measure(name, 0.2, SECOND, True)
+        r, asked = measure(name)
         if SWIPL:
             r['tabling'] = {'spans': tabled(name, 'spans'), 'minute': tabled(name, asked[2])}
         results[name] = r
@@ -119,7 +140,9 @@ def whole():
         pairs = [('check', 'rtt'), ('check', 'grouped')]
         lengths[got] = {'instructions': {' '.join(k): v for k, v in counted('deep', asked, pairs).items()},
                         'time': {w: timed('deep', asked, 'check', w, 0.2, 60)[1] for w in ('rtt', 'grouped')}}
-    out = {'files': results, 'lengths': lengths}
+    parts = {f'{call} {name}': by_function(name, question(name)[0], call)
+             for call, name in (('complete', 'large-1'), ('complete', 'office-1'), ('query', 'large-1'), ('check', 'deep'))}
+    out = {'files': results, 'lengths': lengths, 'parts': parts}
     with open(f'{DIR}/results.json', 'w') as f:
         json.dump(out, f, indent=1)
     return out
@@ -155,8 +178,12 @@ def ratio(r, call, of=None):
     return None, ''
 
 
+def short(x):
+    return f'{x:.2f}' if x < 10 else f'{x:,.0f}'
+
+
 def shown(pair):
-    return '' if pair[0] is None else f'{pair[0]:.2f}{pair[1]}'
+    return '' if pair[0] is None else short(pair[0]) + pair[1]
 
 
 def reply(r, call):
@@ -168,12 +195,32 @@ def reply(r, call):
 
 def tables(out):
     every = out['files']
-    text = []
+    text = ['']
 
     def part(title, note=''):
-        text.append(f'\n### {title}\n')
+        text.append(f'### {title}\n')
         if note:
             text.append(note + '\n')
+    part('Summary')
+    body = []
+    honest = [every[n] for n in files.HONEST]
+    hostile = [every[n] for n in files.HOSTILE]
+    for what, rs, call, of, goal in (
+            ('completing, honest files, against plain', honest, 'complete', 'plain', 1.5),
+            ('completing, hostile files, against the better', hostile, 'complete', None, 2),
+            ('querying, honest files, against plain', honest, 'query', 'plain', 2),
+            ('querying, hostile files, against the better', hostile, 'query', None, 2),
+            ('querying an absent set, honest files, against plain', honest, 'absent', 'plain', 2),
+            ('querying an absent set, hostile files, against the better', hostile, 'absent', None, 2)):
+        had = [(ratio(r, call, of)[0], n) for n, r in every.items() if r in rs and ratio(r, call, of)[0] is not None]
+        over = [f'`{n}` {short(x)}' for x, n in had if x > goal]
+        body.append([what, f'{short(min(had)[0])} to {short(max(had)[0])}', goal,
+                     'met' if not over else f'missed on {len(over)} of {len(had)}: ' + ', '.join(over)])
+    slowest = max(((r['time'][f'{c} rtt'], n, c) for n, r in every.items() for c in CALLS if r['time'].get(f'{c} rtt')))
+    body.append(['longest call of the library', f'{time(slowest[0])} (`{slowest[1]}`, {slowest[2]})', '1 s',
+                 'met' if slowest[0] < SECOND else 'missed'])
+    text.append(rows(['what', 'ratios', 'goal', ''], body))
+    text.append(f'Comparisons of replies and lists between library and yardstick: {sum(r["compared"] for r in every.values()):,}, no difference.\n')
     part('Completing', 'Instructions of one call.')
     text.append(rows(
         ['file', 'reply', 'library', 'plain', 'grouped', 'library / plain', 'library / better'],
@@ -201,7 +248,11 @@ def tables(out):
     if at[low]['instructions']:
         slope = [(at[high]['instructions'][f'check {w}'] - at[low]['instructions'][f'check {w}']) / (high - low) for w in ('rtt', 'grouped')]
         text.append(f'Each further step costs {slope[0]:.0f} instructions, {slope[1]:.0f} in the yardstick.\n')
-    part('Times', 'Least of repeated calls in one run.')
+    part('Where the instructions of the library go', 'By function, as far as the compiler kept them apart; what it inlined counts where it ended up.')
+    text.append(rows(['call', 'file', 'function', 'instructions'],
+                     [[*key.split(), f'`{f}`' if '_' in f or ':' in f else f, number(x)] for key, parts in out['parts'].items()
+                      for f, x in sorted(parts.items(), key=lambda p: -p[1]) if 50 * x > sum(parts.values())]))
+    part('Times', 'Least of repeated calls in one run. A blank cell: there is no proof to check.')
     text.append(rows(
         ['file', 'complete', 'plain', 'grouped', 'query', 'plain', 'grouped', 'absent', 'check', 'plain'],
         [[n, *[time(r['time'].get(f'complete {w}')) for w in ('rtt', 'plain', 'grouped')],
@@ -224,26 +275,6 @@ def tables(out):
                     sys.exit(f'bench: Prolog has {t[0]} memberships on {n}')
             body.append([n, *cells])
         text.append(rows(['file', 'all spans', 'rtt_complete', 'times', 'one minute', 'rtt_query', 'times'], body))
-    part('Summary')
-    body = []
-    honest = [every[n] for n in files.HONEST]
-    hostile = [every[n] for n in files.HOSTILE]
-    for what, rs, call, of, goal in (
-            ('completing, honest files, against plain', honest, 'complete', 'plain', 1.5),
-            ('completing, hostile files, against the better', hostile, 'complete', None, 2),
-            ('querying, honest files, against plain', honest, 'query', 'plain', 2),
-            ('querying, hostile files, against the better', hostile, 'query', None, 2),
-            ('querying an absent set, honest files, against plain', honest, 'absent', 'plain', 2),
-            ('querying an absent set, hostile files, against the better', hostile, 'absent', None, 2)):
-        had = [(ratio(r, call, of)[0], n) for n, r in every.items() if r in rs and ratio(r, call, of)[0] is not None]
-        over = [n for x, n in had if x > goal]
-        body.append([what, f'{min(had)[0]:.2f} to {max(had)[0]:.2f} (`{max(had)[1]}`)', goal,
-                     'met' if not over else f'missed on {len(over)} of {len(had)}: ' + ', '.join(over)])
-    slowest = max(((r['time'][f'{c} rtt'], n, c) for n, r in every.items() for c in CALLS if r['time'].get(f'{c} rtt')))
-    body.append(['longest call of the library', f'{time(slowest[0])} (`{slowest[1]}`, {slowest[2]})', '1 s',
-                 'met' if slowest[0] < SECOND else 'missed'])
-    text.append(rows(['what', 'ratio', 'goal', ''], body))
-    text.append(f'Comparisons of replies and lists between library and yardstick: {sum(r["compared"] for r in every.values()):,}, no difference.\n')
     return '\n'.join(text)
 
 
@@ -295,12 +326,12 @@ if MODE == 'table':
     print(tables(whole()))
 elif MODE == 'doc':
     page = f'{HERE}/../docs/BENCHMARKS.md'
+    measured = tables(whole())
     with open(page) as f:
         text = f.read()
     start, end = '<!-- measured: start -->\n', '<!-- measured: end -->\n'
-    before, after = text.split(start)[0], text.split(end)[1]
     with open(page, 'w') as f:
-        f.write(before + start + tables(whole()) + end + after)
+        f.write(text.split(start)[0] + start + measured + end + text.split(end)[1])
 elif MODE == 'quick':
     quick()
 elif MODE == 'limits':
