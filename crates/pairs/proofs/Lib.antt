@@ -1,5 +1,6 @@
 pub mod Owing
 pub mod Roles
+pub mod Giving
 pub mod Uniting
 pub mod Adding
 pub mod Walking

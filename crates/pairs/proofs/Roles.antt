@@ -1,12 +1,14 @@
--- The list of a role while entries are added.
+-- The list of a role while entries are added, and the first head of a body.
 use mathlib.Core.Path.{_≡_, ap, _∙_}
 use mathlib.Core.List.{List}
-use Prim.Native.Nat.{ℕ, _+_, _-_, _<_}
+use Prim.Native.Nat.{ℕ, _+_, _-_, _≤_, _<_}
 use native.Mathlib.Omega.{arith}
 use lib.ListN.{getD}
 use Rattle.store.specs.Entries.{roleIn, Stored, Grown, latest}
-use Rattle.store.proofs.Chains.{latest-same}
+use Rattle.store.proofs.Chains.{latest-below, latest-same}
+use Rattle.rules.specs.Uses.{Listed}
 use Rattle.heads.specs.Walks.{On}
+use Rattle.heads.specs.Heads.{bodyOfHead}
 use Rattle.pairs.specs.Pairs.{roleOf}
 
 pub roles-start : {keys slots links : List ℕ} {n : ℕ} → Stored keys slots links n → (role c : ℕ) → role < 1024 → c ≡ getD links (1024 + role) 0 → c ≡ latest (roleOf keys) role n
@@ -20,3 +22,7 @@ roles-next {keys} {keys′ = keys′} {n = n} st g role c d nz on e =
     let q : roleOf keys′ (c - 1) ≡ role = ap roleIn (g .same (c - 1) (o .0)) ∙ o .1 in
     e ∙ st .chained .prevs (c - 1) (omega arith) ∙ ap (λ (x : ℕ). latest (roleOf keys′) x (c - 1)) q
     ∙ latest-same (roleOf keys) role (roleOf keys′) (c - 1) (λ i l. ap roleIn (g .same i (omega arith)))
+
+-- the first head of a body
+pub head-low : {codes valid lists : List ℕ} {b h : ℕ} → Listed codes valid lists b h → (body : ℕ) → body < b → getD lists (2080 + body) 0 ≤ 512
+head-low {codes} {h = h} l body k = omega (arith, l .byBody .lasts body (omega (arith, l .few)), latest-below (bodyOfHead codes) body h, l .few)

@@ -1,10 +1,10 @@
--- Sets that wait: one is joined to its equal or gets a new place, and all are added one after the other.
+-- Sets that wait: one is joined to its equal or gets a new place.
 use mathlib.Core.Path.{_≡_, sym, ap, _∙_, subst, subst⁻¹}
 use mathlib.Core.Logic.{_⊎_, inl, inr}
 use mathlib.Core.List.{List}
 use Prim.Native.Nat.{ℕ, _+_, _<_}
 use native.Mathlib.Omega.{arith}
-use lib.Bits.{bitAnd, bitOr}
+use lib.Bits.{bitOr}
 use lib.ListN.{length, getD, set, length-set}
 use lib.Seq.{getD-set-same, getD-set-other}
 use Rattle.meaning.specs.Table.{bit}
@@ -13,8 +13,6 @@ use Rattle.store.specs.Entries.{Has}
 use Rattle.store.proofs.Chains.{equal-or-not}
 use Rattle.heads.specs.Gaining.{Spanned}
 use Rattle.heads.specs.Heads.{One}
-use Rattle.heads.proofs.Heads.{no-bit}
-use Rattle.pairs.specs.Pairs.{WithPair}
 use Rattle.pairs.specs.Waiting.{Waiting, United}
 
 -- ---- one set
@@ -114,24 +112,3 @@ united-same {sets} {masks} {count = count} {P = P} {Q = Q} u f g =
     from : (X s : ℕ) → Has sets masks count X s ⊎ Q X s → Has sets masks count X s ⊎ P X s
     from X s (inl w) = inl w
     from X s (inr w) = inr (g X s w)
-
--- ---- the set that a pair gives
-
-module _ (kind x y m : ℕ) where
-  pub pair-none : m ≡ 0 → (X s : ℕ) → WithPair kind x y m X s → ⊥
-  pair-none z X s (p, b) = no-bit m s z b
-
-  pub pair-apart : kind ≡ 5 → (bitAnd x y ≡ 0 → ⊥) → (X s : ℕ) → WithPair kind x y m X s → ⊥
-  pair-apart e nz X s (p, b) = nz (p .apart e)
-
-  pub second-pair : kind ≡ 2 → (X s : ℕ) → One y m X s → WithPair kind x y m X s
-  second-pair e X s (q, b) = (record { second = λ _. q; joined = λ ne. absurd (ne e); apart = λ f. absurd (omega arith) }, b)
-
-  pub pair-second : kind ≡ 2 → (X s : ℕ) → WithPair kind x y m X s → One y m X s
-  pair-second e X s (p, b) = (p .second e, b)
-
-  pub joined-pair : (kind ≡ 2 → ⊥) → (kind ≡ 5 → bitAnd x y ≡ 0) → (X s : ℕ) → One (bitOr x y) m X s → WithPair kind x y m X s
-  joined-pair ne z X s (q, b) = (record { second = λ e. absurd (ne e); joined = λ _. q; apart = z }, b)
-
-  pub pair-joined : (kind ≡ 2 → ⊥) → (X s : ℕ) → WithPair kind x y m X s → One (bitOr x y) m X s
-  pair-joined ne X s (p, b) = (p .joined ne, b)

@@ -8,7 +8,7 @@ use lib.Bits.{bitAnd}
 use lib.ListN.{length, getD}
 use Rattle.store.specs.Entries.{setIn, Has, latest}
 use Rattle.heads.specs.Gaining.{Spanned, Kept, Gains}
-use Rattle.heads.specs.Walks.{From}
+use Rattle.heads.specs.Walks.{From, Along}
 use Rattle.heads.specs.Heads.{Headed}
 use Rattle.heads.proofs.Walks.{on-latest, lower, from-none, from-next, from-more, from-this}
 use Rattle.heads.proofs.Heads.{headed-more, headed-split, headed-join}
@@ -62,3 +62,10 @@ module _ {limit : ℕ} {keys spans : List ℕ} {n : ℕ} {codes valid : List ℕ
 
             from : (X s : ℕ) → Has sets masks (count % 256) X s ⊎ This X s → Has sets′ masks′ count′ X s
             from X s v = u .exact X s .1 (subst (λ (y : ℕ). Has sets masks (count % 256) X s ⊎ WithPair kind x (setIn y) (bitAnd d (getD done (c - 1) 0)) X s) (sym same) v)
+
+-- ---- pair by pair
+
+-- what the heads give from the entry at place c, whose key is as it was
+pub entry-given : (codes valid : List ℕ) (h body : ℕ) (done : List ℕ) (kind x d : ℕ) {limit : ℕ} {keys spans : List ℕ} {n role : ℕ} {keys′ spans′ slots′ links′ : List ℕ} {r c : ℕ} {keys″ spans″ slots″ links″ : List ℕ} {t : ℕ} → Along limit keys spans n (roleOf keys) role n (WithEntry codes valid h body keys done kind x d) keys′ spans′ slots′ links′ r c → (c ≡ 0 → ⊥) → Gains limit keys′ spans′ r (Headed codes valid h body (WithPair kind x (setIn (getD keys′ (c - 1) 0)) (bitAnd d (getD done (c - 1) 0)))) keys″ spans″ slots″ links″ t → Gains limit keys′ spans′ r (WithEntry codes valid h body keys done kind x d (c - 1)) keys″ spans″ slots″ links″ t
+entry-given codes valid h body done kind x d {limit} {keys′ = keys′} {spans′} {r = r} {c} {keys″} {spans″} {slots″} {links″} {t} a nz g =
+    subst (λ (y : ℕ). Gains limit keys′ spans′ r (Headed codes valid h body (WithPair kind x (setIn y) (bitAnd d (getD done (c - 1) 0)))) keys″ spans″ slots″ links″ t) (a .gains .grown (a .few) .same (c - 1) (a .on nz .0)) g

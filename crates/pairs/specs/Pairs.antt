@@ -3,7 +3,9 @@ use mathlib.Core.Path.{_≡_}
 use mathlib.Core.List.{List}
 use Prim.Native.Nat.{ℕ}
 use lib.Bits.{bitAnd, bitOr}
+use lib.Dec.{eqb}
 use lib.ListN.{getD}
+use Rattle.meaning.specs.Lists.{if}
 use Rattle.meaning.specs.Table.{bit}
 use Rattle.store.specs.Entries.{roleIn, setIn}
 use Rattle.heads.specs.Gaining.{Spanned}
@@ -22,6 +24,13 @@ pub record Paired (kind x y X : ℕ) : Type 0 where
 -- in the spans m
 abbrev pub WithPair : ℕ → ℕ → ℕ → ℕ → Spanned
 WithPair kind x y m X s = Paired kind x y X × (bit m s ≡ 1)
+
+-- the same as one set with its spans, none for ⊗ of sets that share an entity
+abbrev pub pairSet : ℕ → ℕ → ℕ → ℕ
+pairSet kind x y = if (eqb kind 2) y (bitOr x y)
+
+abbrev pub pairSpans : ℕ → ℕ → ℕ → ℕ → ℕ
+pairSpans kind x y m = if (eqb kind 5) (if (eqb (bitAnd x y) 0) m 0) m
 
 -- what the heads of a body give from entry j
 abbrev pub WithEntry : List ℕ → List ℕ → ℕ → ℕ → List ℕ → List ℕ → ℕ → ℕ → ℕ → ℕ → Spanned

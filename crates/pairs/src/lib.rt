@@ -1,12 +1,12 @@
 // What an entry gives with each entry of a role. Sets that it gives wait in 256 places, each once with all its spans, before the heads of a body get them.
 // In all functions b and h are the numbers of bodies and heads, which the contracts name.
 ghost use mathlib.Core.Path.{_≡_};
-ghost use Prim.Native.Nat.{_<_, _≤_};
-ghost use lib.ListN.{length};
+ghost use Prim.Native.Nat.{_+_, _<_, _≤_};
+ghost use lib.ListN.{length, getD};
 ghost use Rattle.store.specs.Entries.{Has};
 ghost use Rattle.heads.specs.Gaining.{Gains};
 ghost use Rattle.heads.specs.Heads.{Ready, One, Headed};
-ghost use Rattle.pairs.specs.Pairs.{WithPair, WithEach};
+ghost use Rattle.pairs.specs.Pairs.{pairSet, pairSpans, WithPair, WithEach};
 ghost use Rattle.pairs.specs.Waiting.{Waiting, Placed, United, Full};
 
 fn wide(x: u16) -> usize
@@ -63,7 +63,29 @@ fn unite(
     count + 1
 }
 
-// The same with the set that x and y give.
+// The spans of m in which x and y give a set.
+fn pair_spans(kind: u32, x: u64, y: u64, m: u64) -> u64
+    ensures { λ r. ⌜ r ≡ pairSpans kind x y m ⌝ }
+{
+    if kind == 5 {
+        if x & y != 0 {
+            return 0;
+        }
+    }
+    m
+}
+
+// The set that they give.
+fn pair_set(kind: u32, x: u64, y: u64) -> u64
+    ensures { λ r. ⌜ r ≡ pairSet kind x y ⌝ }
+{
+    if kind == 2 {
+        return y;
+    }
+    x | y
+}
+
+// Unites the set that x and y give.
 fn unite_pair(
     sets: &mut [u64],
     masks: &mut [u64],
@@ -77,18 +99,111 @@ fn unite_pair(
     requires { ⌜ Waiting (now sets) (now masks) count ⌝ ∗ ⌜ (length (now tree) ≡ 513) × (count < 256) ⌝ ∗ ⌜ (x < 4294967296) × (y < 4294967296) ⌝ }
     ensures { λ r. ⌜ United (now (sets .entry)) (now (masks .entry)) count (WithPair kind x y m) (now (sets .exit)) (now (masks .exit)) r ⌝ }
 {
-    if m == 0 {
+    let v = pair_spans(kind, x, y, m);
+    if v == 0 {
         return count;
     }
-    if kind == 2 {
-        return unite(sets, masks, tree, count, y, m);
+    let set = pair_set(kind, x, y);
+    unite(sets, masks, tree, count, set, v)
+}
+
+// Adds it to the heads of a body.
+fn add_pair(
+    keys: &mut [u64],
+    spans: &mut [u64],
+    slots: &mut [u16],
+    links: &mut [u16],
+    codes: &[u32],
+    valid: &[u64],
+    lists: &[u16],
+    b: usize,
+    h: usize,
+    n: usize,
+    limit: usize,
+    body: usize,
+    kind: u32,
+    x: u64,
+    y: u64,
+    m: u64,
+) -> usize
+    requires { ⌜ Ready (now keys) (now spans) (now slots) (now links) n limit (now codes) (now valid) (now lists) b h body ⌝ ∗ ⌜ (x < 4294967296) × (y < 4294967296) ⌝ }
+    ensures { λ r. ⌜ Gains limit (now (keys .entry)) (now (spans .entry)) n (Headed (now (codes .entry)) (now (valid .entry)) h body (WithPair kind x y m)) (now (keys .exit)) (now (spans .exit)) (now (slots .exit)) (now (links .exit)) r ⌝ }
+{
+    let v = pair_spans(kind, x, y, m);
+    if v == 0 {
+        return n;
     }
-    if kind == 5 {
-        if x & y != 0 {
-            return count;
+    let set = pair_set(kind, x, y);
+    heads::add_heads(
+        keys,
+        spans,
+        slots,
+        links,
+        codes,
+        valid,
+        lists,
+        b,
+        h,
+        n,
+        limit,
+        body,
+        set,
+        v,
+    )
+}
+
+// From each entry of a role, pair by pair.
+fn add_each(
+    keys: &mut [u64],
+    spans: &mut [u64],
+    slots: &mut [u16],
+    links: &mut [u16],
+    done: &[u64],
+    codes: &[u32],
+    valid: &[u64],
+    lists: &[u16],
+    b: usize,
+    h: usize,
+    n: usize,
+    limit: usize,
+    body: usize,
+    kind: u32,
+    role: usize,
+    x: u64,
+    d: u64,
+) -> usize
+    requires { ⌜ Ready (now keys) (now spans) (now slots) (now links) n limit (now codes) (now valid) (now lists) b h body ⌝ ∗ ⌜ (n ≤ length (now done)) × (x < 4294967296) × (role < 1024) ⌝ }
+    ensures { λ r. ⌜ Gains limit (now (keys .entry)) (now (spans .entry)) n (WithEach (now (codes .entry)) (now (valid .entry)) h body (now (keys .entry)) (now (done .entry)) n kind role x d) (now (keys .exit)) (now (spans .exit)) (now (slots .exit)) (now (links .exit)) r ⌝ }
+{
+    let mut r = n;
+    let mut place = wide(links[1024 + role]);
+    while place != 0 {
+        let y = keys[place - 1] % 4294967296;
+        let m = d & done[place - 1];
+        r = add_pair(
+            keys,
+            spans,
+            slots,
+            links,
+            codes,
+            valid,
+            lists,
+            b,
+            h,
+            r,
+            limit,
+            body,
+            kind,
+            x,
+            y,
+            m,
+        );
+        if limit < r {
+            return r;
         }
+        place = wide(links[place - 1]);
     }
-    unite(sets, masks, tree, count, x | y, m)
+    r
 }
 
 // Adds the sets that wait to the heads of a body.
@@ -268,6 +383,14 @@ fn room_for_tree() -> [u16; 513]
     [0; 513]
 }
 
+// Whether a body has one head. Either answer is right for `with_each`, a wrong one would cost time.
+fn one_head(lists: &[u16], body: usize) -> bool
+    requires { ⌜ (length (now lists) ≡ 2592) × (body < 512) × (getD (now lists) (2080 + body) 0 ≤ 512) ⌝ }
+{
+    let c = wide(lists[2080 + body]);
+    lists[1567 + c] == 0
+}
+
 // From each entry of a role.
 pub fn with_each(
     keys: &mut [u64],
@@ -291,6 +414,27 @@ pub fn with_each(
     requires { ⌜ Ready (now keys) (now spans) (now slots) (now links) n limit (now codes) (now valid) (now lists) b h body ⌝ ∗ ⌜ (n ≤ length (now done)) × (x < 4294967296) × (role < 1024) ⌝ }
     ensures { λ r. ⌜ Gains limit (now (keys .entry)) (now (spans .entry)) n (WithEach (now (codes .entry)) (now (valid .entry)) h body (now (keys .entry)) (now (done .entry)) n kind role x d) (now (keys .exit)) (now (spans .exit)) (now (slots .exit)) (now (links .exit)) r ⌝ }
 {
+    if one_head(lists, body) {
+        return add_each(
+            keys,
+            spans,
+            slots,
+            links,
+            done,
+            codes,
+            valid,
+            lists,
+            b,
+            h,
+            n,
+            limit,
+            body,
+            kind,
+            role,
+            x,
+            d,
+        );
+    }
     let mut sets = room_for_sets();
     let mut masks = room_for_sets();
     let mut tree = room_for_tree();
