@@ -1,52 +1,111 @@
--- The spans that a period covers, bit by bit.
---
-use mathlib.Core.Path.{_≡_, sym, ap, _∙_, subst⁻¹}
+-- The spans that a period covers: those from one place up to another, where the ends ascend.
+use mathlib.Core.Path.{_≡_, sym, ap, _∙_}
 use mathlib.Core.Logic.{_⊎_, inl, inr}
-use mathlib.Core.List.{List}
-use Prim.Native.Nat.{ℕ, _+_, _*_, _%_, _^_, _≤_, _<_}
-use native.Mathlib.Nat.{mod-eq-of-lt, not-suc-le-zero}
+use mathlib.Core.List.{List, [], _∷_, List·Memᴰ as Mem, List·Memᴰ·head as head, List·Memᴰ·tail as tail}
+use Prim.Native.Nat.{ℕ, zero, suc, _+_, _-_, _*_, _/_, _%_, _^_, _≤_, _<_, zero-le, suc-le-suc}
+use native.Mathlib.Nat.{mod-eq-of-lt, pow-suc}
 use native.Mathlib.Omega.{arith}
-use lib.Bits.{bitOr}
-use lib.ListN.{getD}
-use lib.Pow.{pow-lt}
+use lib.ListN.{getD, take}
+use lib.Pow.{pow-pos, pow-lt, pow-mono}
 use Rattle.meaning.specs.Table.{bit}
-use Rattle.meaning.proofs.Bits.{bit-below-two, bit-or, bit-of-zero, bit-power, bit-power-other}
-use Rattle.store.proofs.Chains.{last-or-below, equal-or-not}
+use Rattle.meaning.proofs.Bits.{bit-zero, bit-suc, bit-of-zero}
+use Rattle.ends.specs.Ends.{Rising, FirstAt}
+use Rattle.ends.proofs.Insertion.{below-mid}
+use Rattle.heads.proofs.Gaining.{below-or-not}
 use Rattle.loading.specs.Loading.{Masked}
-use Rattle.loading.specs.Steps.{Bit}
+use Rattle.loading.specs.Steps.{Spans}
 
-pub no-bit : (e from until i : ℕ) → (from ≤ e → e < until → ⊥) → Bit e from until i 0
-no-bit e from until i h s = (λ b. absurd (omega (arith, bit-of-zero s)), λ w. absurd (h (w .1) (w .2)))
+-- ---- a number with the bits from p up to q
 
-pub one-bit : (e from until i : ℕ) → i < 64 → from ≤ e → e < until → Bit e from until i (1 * 2 ^ i % 2 ^ 64)
-one-bit e from until i l f u s =
-    let q : 1 * 2 ^ i % 2 ^ 64 ≡ 2 ^ i = ap (λ (x : ℕ). x % 2 ^ 64) (omega arith) ∙ mod-eq-of-lt (pow-lt l) in (
-      λ b. (place (ap (λ (x : ℕ). bit x s) (sym q) ∙ b) (equal-or-not s i), f, u),
-      λ w. ap (λ (x : ℕ). bit x s) q ∙ ap (λ (x : ℕ). bit (2 ^ i) x) (w .0) ∙ bit-power i,
-    )
-  where
-    place : bit (2 ^ i) s ≡ 1 → (s ≡ i) ⊎ (s ≡ i → ⊥) → s ≡ i
-    place b (inl e) = e
-    place b (inr ne) = absurd (omega (arith, bit-power-other i s ne))
+-- none up to 0
+up-to-none : (p s : ℕ) → bit (2 ^ 0 - 2 ^ p) s ≡ 0
+up-to-none p s = let e : 2 ^ 0 - 2 ^ p ≡ 0 = omega (arith, pow-pos p) in ap (λ (x : ℕ). bit x s) e ∙ bit-of-zero s
 
-pub masked-none : (es : List ℕ) (from until : ℕ) → Masked es 0 from until 0
-masked-none es from until s = (λ b. absurd (omega (arith, bit-of-zero s)), λ w. absurd (not-suc-le-zero (w .0)))
+from-none : (q s : ℕ) → bit (2 ^ suc q - 2 ^ 0) (suc s) ≡ bit (2 ^ q - 2 ^ 0) s
+from-none q s =
+    let e : (2 ^ suc q - 2 ^ 0) / 2 ≡ 2 ^ q - 2 ^ 0 = omega (arith, pow-suc 2 q, pow-pos q) in
+    bit-suc (2 ^ suc q - 2 ^ 0) s ∙ ap (λ (x : ℕ). bit x s) e
 
-pub masked-next : (es : List ℕ) (i from until m b : ℕ) → Masked es i from until m → Bit (getD es i 0) from until i b → Masked es (i + 1) from until (bitOr m b)
-masked-next es i from until m b h k s = (λ q. out (cases q (equal-or-not (bit m s) 1)), λ w. put w (last-or-below {i = s} {n = i} (omega (arith, w .0))))
-  where
-    cases : bit (bitOr m b) s ≡ 1 → (bit m s ≡ 1) ⊎ (bit m s ≡ 1 → ⊥) → (bit m s ≡ 1) ⊎ (bit b s ≡ 1)
-    cases q (inl e) = inl e
-    cases q (inr ne) = inr (omega (arith, bit-or m b s, bit-below-two m s, bit-below-two b s))
+from-first : (q : ℕ) → bit (2 ^ suc q - 2 ^ 0) 0 ≡ 1
+from-first q = bit-zero (2 ^ suc q - 2 ^ 0) ∙ omega (arith, pow-suc 2 q, pow-pos q)
 
-    out : (bit m s ≡ 1) ⊎ (bit b s ≡ 1) → (s < i + 1) × (from ≤ getD es s 0) × (getD es s 0 < until)
-    out (inl e) = let w = h s .0 e in (omega arith, w .1, w .2)
-    out (inr e) =
-        let w = k s .0 e in
-        (omega arith, subst⁻¹ (λ (x : ℕ). from ≤ getD es x 0) (w .0) (w .1), subst⁻¹ (λ (x : ℕ). getD es x 0 < until) (w .0) (w .2))
+both-more : (p q s : ℕ) → bit (2 ^ suc q - 2 ^ suc p) (suc s) ≡ bit (2 ^ q - 2 ^ p) s
+both-more p q s =
+    let e : (2 ^ suc q - 2 ^ suc p) / 2 ≡ 2 ^ q - 2 ^ p = omega (arith, pow-suc 2 q, pow-suc 2 p) in
+    bit-suc (2 ^ suc q - 2 ^ suc p) s ∙ ap (λ (x : ℕ). bit x s) e
 
-    put : (s < i + 1) × (from ≤ getD es s 0) × (getD es s 0 < until) → (s ≡ i) ⊎ (s < i) → bit (bitOr m b) s ≡ 1
-    put w (inl e) =
-        let q = k s .1 (e, subst⁻¹ (λ (x : ℕ). from ≤ getD es x 0) (sym e) (w .1), subst⁻¹ (λ (x : ℕ). getD es x 0 < until) (sym e) (w .2)) in
-        omega (arith, bit-or m b s, bit-below-two m s)
-    put w (inr l) = let q = h s .1 (l, w .1, w .2) in omega (arith, bit-or m b s, bit-below-two b s)
+both-first : (p q : ℕ) → bit (2 ^ suc q - 2 ^ suc p) 0 ≡ 0
+both-first p q = bit-zero (2 ^ suc q - 2 ^ suc p) ∙ omega (arith, pow-suc 2 q, pow-suc 2 p)
+
+between-out : (p q s : ℕ) → bit (2 ^ q - 2 ^ p) s ≡ 1 → (p ≤ s) × (s < q)
+between-out p zero s b = absurd (omega (arith, up-to-none p s))
+between-out zero (suc q) zero b = (zero-le, suc-le-suc zero-le)
+between-out zero (suc q) (suc s) b = let w = between-out zero q s (sym (from-none q s) ∙ b) in (zero-le, suc-le-suc (w .1))
+between-out (suc p) (suc q) zero b = absurd (omega (arith, both-first p q))
+between-out (suc p) (suc q) (suc s) b = let w = between-out p q s (sym (both-more p q s) ∙ b) in (suc-le-suc (w .0), suc-le-suc (w .1))
+
+between-in : (p q s : ℕ) → p ≤ s → s < q → bit (2 ^ q - 2 ^ p) s ≡ 1
+between-in p zero s l m = absurd (omega arith)
+between-in zero (suc q) zero l m = from-first q
+between-in zero (suc q) (suc s) l m = from-none q s ∙ between-in zero q s zero-le (omega arith)
+between-in (suc p) (suc q) zero l m = absurd (omega arith)
+between-in (suc p) (suc q) (suc s) l m = both-more p q s ∙ between-in p q s (omega arith) (omega arith)
+
+-- by shifts
+shifted : (i : ℕ) → i < 64 → 1 * 2 ^ i % 2 ^ 64 ≡ 2 ^ i
+shifted i l = let e : 1 * 2 ^ i ≡ 2 ^ i = omega arith in ap (λ (x : ℕ). x % 2 ^ 64) e ∙ mod-eq-of-lt (pow-lt l)
+
+pub no-spans : (p q : ℕ) → q ≤ p → 0 ≡ 2 ^ q - 2 ^ p
+no-spans p q l = omega (arith, pow-mono l)
+
+pub some-spans : (p q : ℕ) → p < 64 → q < 64 → 1 * 2 ^ q % 2 ^ 64 - 1 * 2 ^ p % 2 ^ 64 ≡ 2 ^ q - 2 ^ p
+some-spans p q l m = omega (arith, shifted p l, shifted q m)
+
+pub shifts-ordered : (p q : ℕ) → p < 64 → q < 64 → p ≤ q → 1 * 2 ^ p % 2 ^ 64 ≤ 1 * 2 ^ q % 2 ^ 64
+shifts-ordered p q l m h = omega (arith, shifted p l, shifted q m, pow-mono h)
+
+-- ---- a period
+
+module _ {es : List ℕ} {n : ℕ} (w : Spans es n) where
+  -- from the first place not below x on, none is
+  not-below : (x p s : ℕ) → FirstAt es n x p → p ≤ s → s < n → x ≤ getD es s 0
+  not-below x p s f l m = go (below-or-not (getD es s 0) x)
+    where
+      go : (getD es s 0 < x) ⊎ (x ≤ getD es s 0) → x ≤ getD es s 0
+      go (inr k) = k
+      go (inl k) = absurd (let b = below-mid es n x s (w .room) (w .rising) m k p (omega arith) in let a = f .above (omega arith) in omega arith)
+
+  -- where some place is not below x, the first comes no later
+  no-later : (x p s : ℕ) → FirstAt es n x p → x ≤ getD es s 0 → p ≤ s
+  no-later x p s f l = go (below-or-not s p)
+    where
+      go : (s < p) ⊎ (p ≤ s) → p ≤ s
+      go (inr k) = k
+      go (inl k) = absurd (let b = f .below s k in omega arith)
+
+  pub masked : (from until p q r : ℕ) → FirstAt es n from p → FirstAt es n until q → r ≡ 2 ^ q - 2 ^ p → Masked es n from until r
+  masked from until p q r f g e s = (λ b. out (sym (ap (λ (x : ℕ). bit x s) e) ∙ b), λ v. ap (λ (x : ℕ). bit x s) e ∙ put v)
+    where
+      out : bit (2 ^ q - 2 ^ p) s ≡ 1 → (s < n) × (from ≤ getD es s 0) × (getD es s 0 < until)
+      out b =
+          let i = between-out p q s b in
+          let l : s < n = omega (arith, g .within) in
+          (l, not-below from p s f (i .0) l, g .below s (i .1))
+
+      before : (s < n) × (getD es s 0 < until) → (s < q) ⊎ (q ≤ s) → s < q
+      before v (inl k) = k
+      before v (inr k) = absurd (let a = not-below until q s g k (v .0) in omega arith)
+
+      put : (s < n) × (from ≤ getD es s 0) × (getD es s 0 < until) → bit (2 ^ q - 2 ^ p) s ≡ 1
+      put v = between-in p q s (no-later from p s f (v .1)) (before (v .0, v .2) (below-or-not s q))
+
+-- ---- the first ends of some that ascend
+
+take-out : {y : ℕ} (n : ℕ) (l : List ℕ) → Mem y (take n l) → Mem y l
+take-out (suc n) (x ∷ l) (head e) = head e
+take-out (suc n) (x ∷ l) (tail i) = tail (take-out n l i)
+
+pub rising-take : (n : ℕ) (l : List ℕ) → Rising l → Rising (take n l)
+rising-take zero l a = tt
+rising-take (suc n) [] a = tt
+rising-take (suc n) (x ∷ l) a = (λ y i. a .0 y (take-out n l i), rising-take n l (a .1))

@@ -8,16 +8,18 @@ use native.Mathlib.Nat.{le-refl, lt-of-lt-of-le}
 use native.Mathlib.Omega.{arith}
 use borrow.Author.Tests.{ltb-true, lt-ltb}
 use lib.Dec.{ltb}
-use lib.ListN.{length, getD, List·getD-append, length-append, replicate}
+use lib.ListN.{length, getD, List·getD-append, length-append, replicate, take}
+use lib.Seq.{take-append-le}
 use Rattle.meaning.specs.Lists.{if, only, below}
 use Rattle.meaning.specs.Credentials.{Body, set, role, link, _∩_, _⊙_, _⊗_, Statement, covers, Credential, validAt, SetFits, Period}
 use Rattle.meaning.specs.Sequence.{Relation, S, Gives}
 use Rattle.meaning.specs.Table.{bit, ends, spanCount}
 use Rattle.meaning.proofs.ListLaws.{each-in, each-out, only-in, only-out, sole, map-out, below-out}
-use Rattle.meaning.proofs.Spans.{covers-in, covers-out}
+use Rattle.meaning.proofs.Spans.{covers-in, covers-out, ends-rising}
 use Rattle.meaning.proofs.Bits.{bit-of-zero}
 use Rattle.file.specs.Format.{N, credentialIn, credentials}
 use Rattle.file.proofs.Accepted.{accepted-fits}
+use Rattle.ends.specs.Ends.{Rising}
 use Rattle.store.specs.Entries.{keyOf, roleIn, setIn}
 use Rattle.store.proofs.Keys.{role-of-key, set-of-key}
 use Rattle.rules.specs.Uses.{Use, UsedBy, Fitting}
@@ -26,8 +28,9 @@ use Rattle.heads.proofs.Gaining.{over-more}
 use Rattle.firing.specs.Firing.{Found}
 use Rattle.closing.specs.Closing.{Policy, Given, Closed}
 use Rattle.loading.specs.Loading.{bySpan, Loadable, LoadedFrom}
-use Rattle.loading.specs.Steps.{During, States, SetOf, Before, Part}
+use Rattle.loading.specs.Steps.{Spans, During, States, SetOf, Before, Part}
 use Rattle.loading.proofs.Usables.{position-in, accepted-usable}
+use Rattle.loading.proofs.Masks.{rising-take}
 
 -- ---- sets that are stated
 
@@ -68,12 +71,13 @@ module _ {f es : List ℕ} {m limit : ℕ} (g : Loadable f es m limit) where
       ap (λ (x : List ℕ). getD x s 0) (g .held)
       ∙ List·getD-append (ends (credentials f)) _ 0 s (let n = length (ends (credentials f)) in omega arith)
 
-  -- the spans have their ends in 64 places
-  pub ends-room : (m ≤ 64) × (m ≤ length es)
+  -- the spans have their first minutes in 64 places
+  pub ends-room : Spans es m
   ends-room =
       let c = g .counted in
       let l : length es ≡ length (ends (credentials f)) + length {A = ℕ} (replicate (64 - length (ends (credentials f))) 0) = ap length (g .held) ∙ length-append (ends (credentials f)) _ in
-      (omega (arith, g .accepted .few), omega arith)
+      let e : take m es ≡ take m (ends (credentials f)) = ap (take m) (g .held) ∙ take-append-le m (ends (credentials f)) _ (omega arith) in
+      record { few = omega (arith, g .accepted .few); room = omega arith; rising = subst⁻¹ Rising e (rising-take m (ends (credentials f)) (ends-rising (credentials f))) }
 
   during-in : (v : Period) (s : ℕ) → s < spanCount (ends (credentials f)) → v .from ≤ getD (ends (credentials f)) s 0 → getD (ends (credentials f)) s 0 < v .until → During es m v s
   during-in v s l a b =

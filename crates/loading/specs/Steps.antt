@@ -4,18 +4,21 @@ use mathlib.Core.Path.{_≡_}
 use mathlib.Core.Logic.{_⊎_, _↔_}
 use mathlib.Core.List.{List}
 use Prim.Native.Nat.{ℕ, _+_, _*_, _≤_, _<_}
-use lib.ListN.{getD}
+use lib.ListN.{length, getD, take}
 use Rattle.meaning.specs.Credentials.{Body, set, role, link, _∩_, _⊙_, _⊗_, Period, Credential}
 use Rattle.meaning.specs.Table.{bit}
 use Rattle.file.specs.Format.{credentialIn}
+use Rattle.ends.specs.Ends.{Rising}
 use Rattle.store.specs.Entries.{keyOf, Has}
 use Rattle.rules.specs.Uses.{Use, UsedBy, Uses, Listed, Fitting}
 use Rattle.heads.specs.Gaining.{Spanned, Kept, Gains}
 use Rattle.firing.specs.Firing.{Formed}
 
--- one span, where the period covers its first minute e
-abbrev pub Bit : ℕ → ℕ → ℕ → ℕ → ℕ → Type 0
-Bit e from until i m = (s : ℕ) → bit m s ≡ 1 ↔ ((s ≡ i) × (from ≤ e) × (e < until))
+-- the first n places have the first minutes of spans, ascending
+pub record Spans (es : List ℕ) (n : ℕ) : Type 0 where
+  pub few : n < 64
+  pub room : n ≤ length es
+  pub rising : Rising (take n es)
 
 -- span s is among the first n, and the period covers its first minute
 abbrev pub During : List ℕ → ℕ → Period → ℕ → Type 0

@@ -1,6 +1,6 @@
 // Loading a file's credentials: sets into the store, other bodies into the lists of uses, each with the spans in which it is valid.
 ghost use mathlib.Core.Path.{_≡_};
-ghost use Prim.Native.Nat.{ℕ, _+_, _<_, _≤_};
+ghost use Prim.Native.Nat.{ℕ, _+_, _-_, _^_, _<_, _≤_};
 ghost use lib.ListN.{length, getD};
 ghost use Rattle.file.specs.Conditions.{Accepted};
 ghost use Rattle.file.specs.Format.{N, roleNumber, meaningOf, credentialIn};
@@ -8,7 +8,7 @@ ghost use Rattle.file.specs.Values.{meantBy};
 ghost use Rattle.rules.specs.Uses.{useOf};
 ghost use Rattle.heads.specs.Gaining.{Kept, Gains};
 ghost use Rattle.loading.specs.Loading.{Masked, Loadable, Blank, LoadedFrom};
-ghost use Rattle.loading.specs.Steps.{Bit, Proper, Usable, Room, UsesAdded, Either, BodyUses, BodySets, Ready, CredentialLoaded};
+ghost use Rattle.loading.specs.Steps.{Spans, Proper, Usable, Room, UsesAdded, Either, BodyUses, BodySets, Ready, CredentialLoaded};
 use file::Body;
 use file::Credential;
 use file::Found;
@@ -21,31 +21,25 @@ pub struct Amounts {
     pub uses: Counts,
 }
 
-// Span i alone, where the period covers its first minute.
-fn span_bit(e: u32, from: u32, until: u32, i: usize) -> u64
-    requires { ⌜ i < 64 ⌝ }
-    ensures { λ r. ⌜ Bit e from until i r ⌝ }
+// The spans from p up to q, without q.
+fn spans_between(p: usize, q: usize) -> u64
+    requires { ⌜ (p < 64) × (q < 64) ⌝ }
+    ensures { λ r. ⌜ r ≡ 2 ^ q - 2 ^ p ⌝ }
 {
-    if from <= e {
-        if e < until {
-            return 1u64 << i;
-        }
+    if q <= p {
+        return 0;
     }
-    0
+    (1u64 << q) - (1u64 << p)
 }
 
-// The spans of the first n that a period covers.
+// The spans of the first n that a period covers: those that begin at its first end or later, and before its last.
 fn span_mask(ends: &[u32], n: usize, from: u32, until: u32) -> u64
-    requires { ⌜ (n ≤ 64) × (n ≤ length (now ends)) ⌝ }
+    requires { ⌜ Spans (now ends) n ⌝ }
     ensures { λ r. ⌜ Masked (now (ends .entry)) n from until r ⌝ }
 {
-    let mut m: u64 = 0;
-    let mut i = 0;
-    while i < n {
-        m = m | span_bit(ends[i], from, until, i);
-        i += 1;
-    }
-    m
+    let p = ends::first_at(ends, n, from);
+    let q = ends::first_at(ends, n, until);
+    spans_between(p, q)
 }
 
 fn role_number(r: Role) -> u32
@@ -200,7 +194,7 @@ fn load_credential(
     a: Amounts,
     x: Credential,
 ) -> Amounts
-    requires { ⌜ Ready limit (now keys) (now spans) (now slots) (now links) (now codes) (now valid) (now lists) (a .uses .bodies) (a .uses .heads) (a .entries) ⌝ ∗ ⌜ (count ≤ 64) × (count ≤ length (now ends)) ⌝ ∗ ⌜ Usable (meaningOf (x .body)) (roleNumber (x .head)) ⌝ }
+    requires { ⌜ Ready limit (now keys) (now spans) (now slots) (now links) (now codes) (now valid) (now lists) (a .uses .bodies) (a .uses .heads) (a .entries) ⌝ ∗ ⌜ Spans (now ends) count ⌝ ∗ ⌜ Usable (meaningOf (x .body)) (roleNumber (x .head)) ⌝ }
     ensures { λ r. ⌜ CredentialLoaded (now (ends .entry)) count (meantBy x) limit (now (keys .entry)) (now (spans .entry)) (now (codes .entry)) (now (valid .entry)) (a .uses .bodies) (a .uses .heads) (a .entries) (now (keys .exit)) (now (spans .exit)) (now (slots .exit)) (now (links .exit)) (now (codes .exit)) (now (valid .exit)) (now (lists .exit)) (r .uses .bodies) (r .uses .heads) (r .entries) ⌝ }
 {
     let body = x.body;
@@ -227,7 +221,7 @@ fn load_at(
     a: Amounts,
     i: usize,
 ) -> Amounts
-    requires { ⌜ Ready limit (now keys) (now spans) (now slots) (now links) (now codes) (now valid) (now lists) (a .uses .bodies) (a .uses .heads) (a .entries) ⌝ ∗ ⌜ (count ≤ 64) × (count ≤ length (now ends)) ⌝ ∗ ⌜ Accepted (now file) × (i < N (now file)) ⌝ }
+    requires { ⌜ Ready limit (now keys) (now spans) (now slots) (now links) (now codes) (now valid) (now lists) (a .uses .bodies) (a .uses .heads) (a .entries) ⌝ ∗ ⌜ Spans (now ends) count ⌝ ∗ ⌜ Accepted (now file) × (i < N (now file)) ⌝ }
     ensures { λ r. ⌜ CredentialLoaded (now (ends .entry)) count (credentialIn (now (file .entry)) i) limit (now (keys .entry)) (now (spans .entry)) (now (codes .entry)) (now (valid .entry)) (a .uses .bodies) (a .uses .heads) (a .entries) (now (keys .exit)) (now (spans .exit)) (now (slots .exit)) (now (links .exit)) (now (codes .exit)) (now (valid .exit)) (now (lists .exit)) (r .uses .bodies) (r .uses .heads) (r .entries) ⌝ }
 {
     match file::read_credential(file, i) {
