@@ -87,7 +87,7 @@ extern "C" {
 /* Bytes of stack that are enough for any call, beside what the caller itself uses. Measured, no call takes more than
 
      rtt_complete  63,000 bytes
-     rtt_query     46,000 bytes
+     rtt_query     57,000 bytes
      rtt_check     26,000 bytes
 
    c/run measures again, and fails where a call takes more than this or where one of these is above RTT_STACK. To
