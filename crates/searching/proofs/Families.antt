@@ -14,7 +14,8 @@ use Rattle.firing.proofs.Firings.{family-low, families-next}
 use Rattle.deriving.specs.declared.Turn.{Turn}
 use Rattle.deriving.specs.Gaining.{Keyed}
 use Rattle.deriving.specs.Offers.{Ready, Adds}
-use Rattle.searching.specs.Giving.{FamilyOf, ByBody, ByFamily}
+use Rattle.bodies.specs.Bodies.{FamilyOf, ByBody}
+use Rattle.searching.specs.Giving.{ByFamily}
 use Rattle.deriving.proofs.Growing.{level-same, gains-none, gains-less, gains-over, gains-then, alike}
 
 -- ---- after an addition

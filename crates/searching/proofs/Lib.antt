@@ -1,4 +1,3 @@
-pub mod Bodies
 pub mod Families
 pub mod Statements
 pub mod Reading

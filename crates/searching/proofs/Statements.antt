@@ -23,7 +23,8 @@ use Rattle.deriving.specs.declared.Turn.{Turn}
 use Rattle.deriving.specs.Gaining.{Keyed}
 use Rattle.listing.specs.Sources.{Named}
 use Rattle.deriving.specs.Offers.{Ready, Adds}
-use Rattle.searching.specs.Giving.{GivenBy, Premises, Fires, Some, FamilyOf, ByFamily}
+use Rattle.bodies.specs.Bodies.{FamilyOf}
+use Rattle.searching.specs.Giving.{GivenBy, Premises, Fires, Some, ByFamily}
 use Rattle.deriving.proofs.Growing.{gains-less, gains-over, gains-then}
 use Rattle.searching.proofs.Families.{families-same}
 

@@ -11,7 +11,7 @@ use Rattle.store.specs.Entries.{keyOf, roleIn}
 use Rattle.firing.specs.Steps.{familyOf}
 use Rattle.deriving.specs.declared.Turn.{Turn}
 use Rattle.deriving.specs.Gaining.{Keyed}
-use Rattle.deriving.specs.Offers.{Partner, ToHeads}
+use Rattle.bodies.specs.Bodies.{ByBody}
 
 -- the key that a statement gives from entries with the keys a and b
 abbrev pub GivenBy : Statement → ℕ → ℕ → ℕ → Type 0
@@ -49,14 +49,6 @@ pub record Fact (s : Statement) (key : ℕ) : Type 0 where
   pub value : ℕ
   pub body : s .body ≡ set value
   pub states : key ≡ keyOf (s .head) value
-
--- the families whose bodies have entry e as a premise
-abbrev pub FamilyOf : Turn → List ℕ → ℕ → Type 0
-FamilyOf t keys family = (family ≡ roleIn (getD keys (t .e) 0)) ⊎ (family ≡ 1024 + roleIn (getD keys (t .e) 0) % 32)
-
--- what the heads of a body get from entry e and the entries up to it
-abbrev pub ByBody : Turn → List ℕ → ℕ → List ℕ → ℕ → Type 0
-ByBody t codes body keys key = (j X : ℕ) × (j ≤ t .e) × Partner t codes body keys j X × ToHeads t codes body X key
 
 -- what those of every body of a family get
 abbrev pub ByFamily : Turn → List ℕ → ℕ → List ℕ → ℕ → Type 0

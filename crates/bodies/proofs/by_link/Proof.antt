@@ -1,13 +1,13 @@
--- `searching::by_link` adds what a link gives from entry e: by its second premise with one entry, by its first with each entry of the linked role.
+-- `bodies::by_link` adds what a link gives from entry e: by its second premise with one entry, by its first with each entry of the linked role.
 use native.Mathlib.Omega.{arith}
 use lib.ListN.{getD}
 use Rattle.store.specs.Entries.{setIn}
 use Rattle.store.proofs.Keys.{set-below}
 use Rattle.firing.proofs.Combining.{sole-below}
-use Rattle.searching.proofs.Bodies.{premise, link-none, link-feeds, by-link, linking-fits, name-keys, by-name}
+use Rattle.bodies.proofs.Bodies.{premise, link-none, link-feeds, by-link, linking-fits, name-keys, by-name}
 use borrow.Author.Needs.{needs}
-use Rattle.searching.proofs.by_link.Statement.{statement}
-use Rattle.searching.proofs.by_link.Tie as tie
+use Rattle.bodies.proofs.by_link.Statement.{statement}
+use Rattle.bodies.proofs.by_link.Tie as tie
 
 mul-code : tie.Need-mul-code
 mul-code c = omega (arith, c .before .before .before .before .before .before .before .before .before .pre .1 .1 .0 .0, c .before .before .before .before .before .before .before .before .before .pre .0 .listing .listed .1 .few)

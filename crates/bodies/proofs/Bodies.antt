@@ -19,7 +19,7 @@ use Rattle.deriving.specs.declared.Turn.{Turn}
 use Rattle.deriving.specs.Gaining.{Keyed}
 use Rattle.deriving.specs.Offers.{Ready, Adds, Partner, Offered, ToHeads}
 use Rattle.partners.specs.Partners.{Keys, WithOne, Feeds, WithEach}
-use Rattle.searching.specs.Giving.{FamilyOf, ByBody}
+use Rattle.bodies.specs.Bodies.{FamilyOf, ByBody}
 use Rattle.deriving.proofs.Growing.{gains-none, gains-less}
 
 -- ---- the only entry

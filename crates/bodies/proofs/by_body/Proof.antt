@@ -1,11 +1,11 @@
--- `searching::by_body` adds what a body gives from entry e, by its kind.
+-- `bodies::by_body` adds what a body gives from entry e, by its kind.
 use Prim.Native.Nat.{_≤_}
 use native.Mathlib.Omega.{arith}
 use Rattle.firing.specs.Steps.{kindOf}
-use Rattle.searching.proofs.Bodies.{offered-alone, by-alone, same-keys, by-same, pair-feeds, by-pair}
+use Rattle.bodies.proofs.Bodies.{offered-alone, by-alone, same-keys, by-same, pair-feeds, by-pair}
 use borrow.Author.Needs.{needs}
-use Rattle.searching.proofs.by_body.Statement.{statement}
-use Rattle.searching.proofs.by_body.Tie as tie
+use Rattle.bodies.proofs.by_body.Statement.{statement}
+use Rattle.bodies.proofs.by_body.Tie as tie
 
 mul-code : tie.Need-mul-code
 mul-code c = omega (arith, c .before .before .before .before .before .before .before .before .before .pre .1 .1 .0, c .before .before .before .before .before .before .before .before .before .pre .0 .listing .listed .1 .few)
