@@ -23,34 +23,30 @@ use Rattle.deriving.proofs.Growing.{level-same, gains-none, gains-less,
 
 -- ---- what stays as entries are added
 
-pub ready-next : {f : List ℕ} {t : Turn} {keys slots links notes codes lists sources keys′ slots′ links′ notes′ : List ℕ} {n r : ℕ} → Ready f t keys slots links notes codes lists sources n → Grown keys notes n keys′ notes′ r → r ≤ t .limit → Kept (credentials f) (t .minute) keys′ slots′ links′ notes′ r (t .level) → Ready f t keys′ slots′ links′ notes′ codes lists sources r
-ready-next {t = t} h g l k =
+pub ready-next : {f : List ℕ} {t : Turn} {keys slots links notes codes lists sources keys′ slots′ links′ notes′ : List ℕ} {n r : ℕ} {New : ℕ → Type 0} → Ready f t keys slots links notes codes lists sources n → r ≤ t .limit → Adds f t keys notes n New keys′ slots′ links′ notes′ r → Ready f t keys′ slots′ links′ notes′ codes lists sources r
+ready-next {t = t} h l a =
+    let g = a .grown l in
     record {
       accepted = h .accepted;
-      kept = k;
+      kept = a .kept l;
       few = (l, h .few .1);
       listing = h .listing;
       firing = (omega (arith, h .firing .0, g .more), h .firing .1 ∙ ap suc (sym (level-same g (t .e) (h .firing .0))));
     }
 
-module _ (t : Turn) {keys notes keys′ notes′ : List ℕ} {n r : ℕ} (g : Grown keys notes n keys′ notes′ r) (low : t .e < n) (codes : List ℕ) (body : ℕ) where
-  pub partner-grown : (j X : ℕ) → j ≤ t .e → Partner t codes body keys j X → Partner t codes body keys′ j X
-  partner-grown j X l w =
-      let p : getD keys j 0 ≡ getD keys′ j 0 = sym (g .same j (omega arith)) in
-      let q : getD keys (t .e) 0 ≡ getD keys′ (t .e) 0 = sym (g .same (t .e) low) in
-      subst (λ (x : ℕ). Combined (Keyed x) (getD keys′ (t .e) 0) (familyOf codes body) (kindOf codes body) (otherOf codes body) X) p
-      (subst (λ (x : ℕ). Combined (Keyed (getD keys j 0)) x (familyOf codes body) (kindOf codes body) (otherOf codes body) X) q w)
+-- entries up to e keep their keys
+pub upto-same : {f : List ℕ} {t : Turn} {keys slots links notes codes lists sources keys′ notes′ : List ℕ} {n r : ℕ} → Ready f t keys slots links notes codes lists sources n → Grown keys notes n keys′ notes′ r → (i : ℕ) → i ≤ t .e → getD keys′ i 0 ≡ getD keys i 0
+upto-same h g i l = let o = h .firing .0 in g .same i (omega arith)
 
-  pub partner-before : (j X : ℕ) → j ≤ t .e → Partner t codes body keys′ j X → Partner t codes body keys j X
-  partner-before j X l w =
-      let p : getD keys′ j 0 ≡ getD keys j 0 = g .same j (omega arith) in
-      let q : getD keys′ (t .e) 0 ≡ getD keys (t .e) 0 = g .same (t .e) low in
-      subst (λ (x : ℕ). Combined (Keyed x) (getD keys (t .e) 0) (familyOf codes body) (kindOf codes body) (otherOf codes body) X) p
-      (subst (λ (x : ℕ). Combined (Keyed (getD keys′ j 0)) x (familyOf codes body) (kindOf codes body) (otherOf codes body) X) q w)
+module _ (t : Turn) (codes : List ℕ) (body : ℕ) (keys keys′ : List ℕ) (same : (i : ℕ) → i ≤ t .e → getD keys′ i 0 ≡ getD keys i 0) where
+  pub partner-same : (j X : ℕ) → j ≤ t .e → Partner t codes body keys j X → Partner t codes body keys′ j X
+  partner-same j X l w =
+      subst (λ (a : ℕ). Combined (Keyed a) (getD keys′ (t .e) 0) (familyOf codes body) (kindOf codes body) (otherOf codes body) X) (sym (same j l))
+      (subst (λ (a : ℕ). Combined (Keyed (getD keys j 0)) a (familyOf codes body) (kindOf codes body) (otherOf codes body) X) (sym (same (t .e) (omega arith))) w)
 
-  pub offered-grown : {set other : ℕ} → Offered t codes body keys set other → Offered t codes body keys′ set other
-  offered-grown {set} o =
-      record { entry = o .entry; upto = o .upto; single = o .single; double = o .double; partner = partner-grown (o .entry) set (o .upto) (o .partner) }
+  pub offered-same : {set other : ℕ} → Offered t codes body keys set other → Offered t codes body keys′ set other
+  offered-same {set} o =
+      record { entry = o .entry; upto = o .upto; single = o .single; double = o .double; partner = partner-same (o .entry) set (o .upto) (o .partner) }
 
 -- ---- the loop
 
@@ -81,7 +77,7 @@ module _ {f : List ℕ} {t : Turn} {keys slots links notes codes lists sources :
 
   module _ {set : ℕ} {keys′ slots′ links′ notes′ : List ℕ} {r c : ℕ} (a : Along f t keys notes n codes body set keys′ slots′ links′ notes′ r c) where
     pub along-ready : Ready f t keys′ slots′ links′ notes′ codes lists sources r
-    along-ready = ready-next h (a .adds .grown (a .few)) (a .few) (a .adds .kept (a .few))
+    along-ready = ready-next h (a .few) (a .adds)
 
     pub along-end : c ≡ 0 → Adds f t keys notes n (ToHeads t codes body set) keys′ slots′ links′ notes′ r
     along-end z = gains-less (λ key w. (w .0, omega arith, w .1, w .2, w .3)) (a .adds)

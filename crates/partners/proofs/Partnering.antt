@@ -14,7 +14,6 @@ use lib.Seq.{getD-set-same, getD-set-other}
 use Rattle.store.specs.Entries.{roleIn, setIn, At}
 use Rattle.store.proofs.Stores.{distinct-keys}
 use Rattle.pairs.specs.Pairs.{Paired}
-use Rattle.firing.specs.Firing.{Combined}
 use Rattle.firing.specs.Steps.{familyOf, kindOf, otherOf}
 use Rattle.deriving.specs.declared.Turn.{Turn}
 use Rattle.partners.specs.declared.Progress.{Progress}
@@ -22,6 +21,7 @@ use Rattle.deriving.specs.Gaining.{Keyed, Grown, Has}
 use Rattle.deriving.specs.Offers.{Ready, Adds, Partner, Offered, ToHeads}
 use Rattle.partners.specs.Partners.{Keys, WithOne, Feeds, WithEntry}
 use Rattle.partners.specs.Walks.{Known, Among, Progressed}
+use Rattle.deriving.proofs.Heading.{partner-same}
 use Rattle.deriving.proofs.Growing.{grown-refl, level-same, has-grown, gains-none, gains-less}
 
 pub below-or-not : (a b : ℕ) → (a < b) ⊎ (b ≤ a)
@@ -33,31 +33,9 @@ below-or-not a b = go (ltb a b) refl
 
 -- ---- after an addition
 
-pub ready-next : {f : List ℕ} {t : Turn} {keys slots links notes codes lists sources keys′ slots′ links′ notes′ : List ℕ} {n r : ℕ} {New : ℕ → Type 0} → Ready f t keys slots links notes codes lists sources n → r ≤ t .limit → Adds f t keys notes n New keys′ slots′ links′ notes′ r → Ready f t keys′ slots′ links′ notes′ codes lists sources r
-ready-next {t = t} h l a =
-    let g = a .grown l in
-    let o = h .firing .0 in
-    let m = g .more in
-    record {
-      accepted = h .accepted;
-      kept = a .kept l;
-      few = (l, h .few .1);
-      listing = h .listing;
-      firing = (omega arith, h .firing .1 ∙ ap suc (sym (level-same g (t .e) o)));
-    }
-
--- entries up to e keep their keys
-pub upto-same : {f : List ℕ} {t : Turn} {keys slots links notes codes lists sources keys′ notes′ : List ℕ} {n r : ℕ} → Ready f t keys slots links notes codes lists sources n → Grown keys notes n keys′ notes′ r → (i : ℕ) → i ≤ t .e → getD keys′ i 0 ≡ getD keys i 0
-upto-same h g i l = let o = h .firing .0 in g .same i (omega arith)
-
 module _ (t : Turn) (codes : List ℕ) (body : ℕ) (keys keys′ : List ℕ) (same : (i : ℕ) → i ≤ t .e → getD keys′ i 0 ≡ getD keys i 0) where
   here : getD keys′ (t .e) 0 ≡ getD keys (t .e) 0
   here = same (t .e) (le-refl (t .e))
-
-  partner-same : (j X : ℕ) → j ≤ t .e → Partner t codes body keys j X → Partner t codes body keys′ j X
-  partner-same j X l w =
-      subst (λ (a : ℕ). Combined (Keyed a) (getD keys′ (t .e) 0) (familyOf codes body) (kindOf codes body) (otherOf codes body) X) (sym (same j l))
-      (subst (λ (a : ℕ). Combined (Keyed (getD keys j 0)) a (familyOf codes body) (kindOf codes body) (otherOf codes body) X) (sym here) w)
 
   pair-back : (kind j X : ℕ) → j ≤ t .e → Paired kind (setIn (getD keys′ (t .e) 0)) (setIn (getD keys′ j 0)) X → Paired kind (setIn (getD keys (t .e) 0)) (setIn (getD keys j 0)) X
   pair-back kind j X l w =
@@ -69,7 +47,7 @@ module _ (t : Turn) (codes : List ℕ) (body : ℕ) (keys keys′ : List ℕ) (s
         low = w .low;
         double = w .double;
         small = w .small;
-        gives = λ j X l r p. partner-same j X l (w .gives j X l (ap roleIn (sym (same j l)) ∙ r) (pair-back kind j X l p));
+        gives = λ j X l r p. partner-same t codes body keys keys′ same j X l (w .gives j X l (ap roleIn (sym (same j l)) ∙ r) (pair-back kind j X l p));
       }
 
   pub entry-same : (kind j k : ℕ) → WithEntry t codes body keys′ kind j k → WithEntry t codes body keys kind j k

@@ -15,7 +15,8 @@ use Rattle.deriving.specs.Offers.{Ready, Adds}
 use Rattle.partners.specs.Partners.{Feeds, WithEntry, WithEach}
 use Rattle.partners.specs.Walks.{Known, Starts, Progressed}
 use Rattle.deriving.proofs.Growing.{grown-trans, gains-none, gains-less, gains-over, gains-then}
-use Rattle.partners.proofs.Partnering.{below-or-not, ready-next, upto-same, feeds-same, entry-same}
+use Rattle.deriving.proofs.Heading.{ready-next, upto-same}
+use Rattle.partners.proofs.Partnering.{below-or-not, feeds-same, entry-same}
 
 -- the list of a body's heads
 pub heads-listed : {f : List ℕ} {t : Turn} {keys slots links notes codes lists sources : List ℕ} {n : ℕ} → Ready f t keys slots links notes codes lists sources n → (body : ℕ) → body < t .bodies → ((length lists ≡ 2592) × (body < 512)) × (getD lists (2080 + body) 0 ≤ 512)

@@ -8,41 +8,27 @@ use lib.ListN.{length, getD}
 use Rattle.store.specs.Entries.{roleIn, latest}
 use Rattle.heads.specs.Walks.{On, From}
 use Rattle.heads.proofs.Walks.{on-latest, lower, from-none, from-next}
-use Rattle.firing.specs.Firing.{Combined}
 use Rattle.firing.specs.Steps.{familyOf, kindOf, otherOf}
 use Rattle.firing.proofs.Firings.{family-low, families-next}
 use Rattle.deriving.specs.declared.Turn.{Turn}
-use Rattle.deriving.specs.Gaining.{Keyed}
 use Rattle.deriving.specs.Offers.{Ready, Adds}
 use Rattle.bodies.specs.Bodies.{FamilyOf, ByBody}
 use Rattle.searching.specs.Giving.{ByFamily}
+use Rattle.deriving.proofs.Heading.{ready-next, upto-same, partner-same}
 use Rattle.deriving.proofs.Growing.{level-same, gains-none, gains-less, gains-over, gains-then, alike}
 
 -- ---- after an addition
 
 module _ {f : List ℕ} {t : Turn} {keys slots links notes codes lists sources : List ℕ} {n : ℕ} (h : Ready f t keys slots links notes codes lists sources n) {New : ℕ → Type 0} {keys′ slots′ links′ notes′ : List ℕ} {r : ℕ} (g : Adds f t keys notes n New keys′ slots′ links′ notes′ r) (few : r ≤ t .limit) where
-  pub ready-next : Ready f t keys′ slots′ links′ notes′ codes lists sources r
-  ready-next =
-      let w = g .grown few in
-      record {
-        accepted = h .accepted;
-        kept = g .kept few;
-        few = (few, h .few .1);
-        listing = h .listing;
-        firing = (omega (arith, w .more, h .firing .0), h .firing .1 ∙ ap suc (sym (level-same w (t .e) (h .firing .0))));
-      }
-
   -- entries up to e stay
-  same : (i : ℕ) → i ≤ t .e → getD keys i 0 ≡ getD keys′ i 0
-  same i l = sym (g .grown few .same i (omega (arith, h .firing .0)))
+  same : (i : ℕ) → i ≤ t .e → getD keys′ i 0 ≡ getD keys i 0
+  same = upto-same h (g .grown few)
 
   pub family-next : {family : ℕ} → FamilyOf t keys family → FamilyOf t keys′ family
-  family-next {family} = subst (λ (a : ℕ). (family ≡ roleIn a) ⊎ (family ≡ 1024 + roleIn a % 32)) (same (t .e) (omega arith))
+  family-next {family} = subst (λ (a : ℕ). (family ≡ roleIn a) ⊎ (family ≡ 1024 + roleIn a % 32)) (sym (same (t .e) (omega arith)))
 
   pub body-next : {body key : ℕ} → ByBody t codes body keys key → ByBody t codes body keys′ key
-  body-next {body} (j, X, l, p, w) =
-      let by : ℕ → ℕ → Type 0 = λ (a : ℕ) (b : ℕ). Combined (Keyed b) a (familyOf codes body) (kindOf codes body) (otherOf codes body) X in
-      (j, X, l, subst (by (getD keys′ (t .e) 0)) (same j l) (subst (λ (a : ℕ). by a (getD keys j 0)) (same (t .e) (omega arith)) p), w)
+  body-next {body} (j, X, l, p, w) = (j, X, l, partner-same t codes body keys keys′ same j X l p, w)
 
   pub families-same : {family key : ℕ} → ByFamily t codes family keys key → ByFamily t codes family keys′ key
   families-same (body, l, o, w) = (body, l, o, body-next w)
@@ -76,7 +62,7 @@ module _ {f : List ℕ} {t : Turn} {keys slots links notes codes lists sources :
 
   module _ {keys′ slots′ links′ notes′ sets : List ℕ} {r c : ℕ} (a : Along f t codes family keys notes n keys′ slots′ links′ notes′ sets r c) where
     pub along-ready : Ready f t keys′ slots′ links′ notes′ codes lists sources r
-    along-ready = ready-next h (a .adds) (a .few)
+    along-ready = ready-next h (a .few) (a .adds)
 
     pub along-alike : (length keys′ ≡ length keys) × (length slots′ ≡ length slots) × (length links′ ≡ length links) × (length notes′ ≡ length notes)
     along-alike = alike (h .kept) (a .adds .kept (a .few))

@@ -1,7 +1,7 @@
 -- `deriving::give` enters a set for every head of a body, along its list.
 use native.Mathlib.Omega.{arith}
 use Rattle.deriving.proofs.Growing.{alike}
-use Rattle.deriving.proofs.Heading.{Along, offered-grown, body-low, along-start, along-ready, along-end, along-low, along-over, along-less, along-next}
+use Rattle.deriving.proofs.Heading.{Along, upto-same, offered-same, body-low, along-start, along-ready, along-end, along-low, along-over, along-less, along-next}
 use mathlib.Core.Path.{_∙_}
 use borrow.Author.Needs.{needs}
 use Rattle.deriving.proofs.give.Statement.{statement}
@@ -46,7 +46,7 @@ give-one-requires : tie.Need-give-one-requires Inv-loop μ-loop
 give-one-requires c κs = let p = c .before .before .before .before .before .before .before .before .before .before .before .before .before .before .before .before .pre in
     let v = c .before .before .before .before .before .loop .inv in
     let o = v .on (c .before .before .before .before .loop-test .taken) in
-    (along-ready (p .0) (p .1 .0) v, ((o .0, o .1), offered-grown (c .before .before .before .before .before .before .before .before .before .before .before .before .before .before .before .before .args .t) (v .adds .grown (v .few)) (p .0 .firing .0) (c .before .before .before .before .before .before .before .before .before .before .before .before .before .before .before .before .args .codes .now) (c .before .before .before .before .before .before .before .before .before .before .before .before .before .before .before .before .args .body) (p .1 .1)))
+    (along-ready (p .0) (p .1 .0) v, ((o .0, o .1), offered-same (c .before .before .before .before .before .before .before .before .before .before .before .before .before .before .before .before .args .t) (c .before .before .before .before .before .before .before .before .before .before .before .before .before .before .before .before .args .codes .now) (c .before .before .before .before .before .before .before .before .before .before .before .before .before .before .before .before .args .body) _ _ (upto-same (p .0) (v .adds .grown (v .few))) (p .1 .1)))
 
 -- src/lib.rt:159:13
 same-length : tie.Need-same-length Inv-loop μ-loop

@@ -1,7 +1,8 @@
 -- `searching::fire` adds what all credentials give from entry e: by the family of its role, then by that of its name.
 use mathlib.Core.Path.{refl}
 use mathlib.Core.Logic.{inl, inr}
-use Rattle.searching.proofs.Families.{ready-next, family-next}
+use Rattle.deriving.proofs.Heading.{ready-next}
+use Rattle.searching.proofs.Families.{family-next}
 use Rattle.searching.proofs.Statements.{fire-over, fire-both}
 use borrow.Author.Needs.{needs}
 use Rattle.searching.proofs.fire.Statement.{statement}
@@ -39,7 +40,7 @@ add-by-family c = search needs
 
 by-family-requires-2 : tie.Need-by-family-requires-2
 by-family-requires-2 c κs = let w = c .before .before .before .before .before .before .before .before .before .before .before .before .before .before .before .before .by-family .ensures in
-    (ready-next (c .before .before .before .before .before .before .before .before .before .before .before .before .before .before .before .before .before .before .before .before .before .before .before .before .before .before .before .before .before .before .before .before .pre .0) (w .0) (c .before .before .before .before .before .if1 .left), (w .1, family-next (c .before .before .before .before .before .before .before .before .before .before .before .before .before .before .before .before .before .before .before .before .before .before .before .before .before .before .before .before .before .before .before .before .pre .0) (w .0) (c .before .before .before .before .before .if1 .left) (inr refl)))
+    (ready-next (c .before .before .before .before .before .before .before .before .before .before .before .before .before .before .before .before .before .before .before .before .before .before .before .before .before .before .before .before .before .before .before .before .pre .0) (c .before .before .before .before .before .if1 .left) (w .0), (w .1, family-next (c .before .before .before .before .before .before .before .before .before .before .before .before .before .before .before .before .before .before .before .before .before .before .before .before .before .before .before .before .before .before .before .before .pre .0) (w .0) (c .before .before .before .before .before .if1 .left) (inr refl)))
 
 same-length-6 : tie.Need-same-length-6
 same-length-6 c = search needs
