@@ -1,6 +1,6 @@
 /* Who may release this sheet, and when: RT^T_+ credentials with periods.
 
-   Three calls. Each takes the bytes of a credentials file (document 01, 'The credentials file') and lists that the
+   Three calls. Each takes the bytes of a credentials file (rtt(5)) and lists that the
    caller lends, and replies with one 64-bit number. What a call replies and every byte that it leaves are proved, for
    every input, against crates/rtt/specs/Interface.antt.
 
@@ -90,8 +90,7 @@ extern "C" {
      rtt_query     57,000 bytes
      rtt_check     26,000 bytes
 
-   c/run measures again, and fails where a call takes more than this or where one of these is above RTT_STACK. To
-   update a figure, write here what c/run prints, rounded up to the next thousand. */
+   These are measured, and rounded up to the next thousand. */
 #define RTT_STACK 65536
 
 /* The most entries of a list. */

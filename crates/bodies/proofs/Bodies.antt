@@ -18,7 +18,7 @@ use Rattle.firing.proofs.Combining.{shifted, combined-more, one-body, body-one,
 use Rattle.deriving.specs.declared.Turn.{Turn}
 use Rattle.deriving.specs.Gaining.{Keyed}
 use Rattle.deriving.specs.Offers.{Ready, Adds, Partner, Offered, ToHeads}
-use Rattle.partners.specs.Partners.{Keys, WithOne, Feeds, WithEach}
+use Rattle.partners.specs.Partners.{FeedsOne, WithOne, FeedsEach, WithEach}
 use Rattle.bodies.specs.Bodies.{FamilyOf, ByBody}
 use Rattle.deriving.proofs.Growing.{gains-none, gains-less}
 
@@ -112,7 +112,7 @@ module _ {f : List ℕ} {t : Turn} {keys slots links notes codes lists sources :
 
   -- kind 3
   module _ (kind : kindOf codes body ≡ 3) where
-    pub same-keys : Keys t codes body keys (keyOf (otherOf codes body) (setIn a)) (setIn a)
+    pub same-keys : FeedsOne t codes body keys (keyOf (otherOf codes body) (setIn a)) (setIn a)
     same-keys =
         record {
           low = low;
@@ -125,7 +125,7 @@ module _ {f : List ℕ} {t : Turn} {keys slots links notes codes lists sources :
 
   -- kinds 4 and 5
   module _ (kind : 4 ≤ kindOf codes body) where
-    pub pair-feeds : Feeds t codes body keys (kindOf codes body) (otherOf codes body)
+    pub pair-feeds : FeedsEach t codes body keys (kindOf codes body) (otherOf codes body)
     pair-feeds =
         record {
           low = low;
@@ -145,7 +145,7 @@ module _ {f : List ℕ} {t : Turn} {keys slots links notes codes lists sources :
     pub link-none : (ones (setIn a) ≡ 1 → ⊥) → Adds f t keys notes n (ByBody t codes body keys) keys slots links notes n
     link-none ne = gains-none (h .kept) (h .few .0) (λ key (j, X, l, p, w). linked-none premise low (one j) (1 ∷ []) 1 1 kind first ne X 0 (partner-alone j l X p))
 
-    pub link-feeds : ones (setIn a) ≡ 1 → Feeds t codes body keys 2 linked
+    pub link-feeds : ones (setIn a) ≡ 1 → FeedsEach t codes body keys 2 linked
     link-feeds o =
         record {
           low = low;
@@ -168,7 +168,7 @@ module _ {f : List ℕ} {t : Turn} {keys slots links notes codes lists sources :
   linking-fits = omega (arith, linking-key, key-below (otherOf codes body) (2 ^ (roleIn a / 32)) (omega arith) (pow-lt {j = 32} (omega (arith, premise .role))))
 
   module _ (kind : kindOf codes body ≡ 2) (second : 1024 ≤ familyOf codes body) where
-    pub name-keys : Keys t codes body keys linking (setIn a)
+    pub name-keys : FeedsOne t codes body keys linking (setIn a)
     name-keys =
         record {
           low = low;

@@ -1,5 +1,5 @@
 // What an entry gives by a body, by its kind.
-// In all functions file and minute are those of the search, which the contracts name.
+// No function here reads the file: the contracts name its credentials. A body's code is family × 8,192 + kind × 1,024 + other; families from 1,024 on are of links by a name.
 ghost use mathlib.Core.Path.{_≡_};
 ghost use Prim.Native.Nat.{_<_};
 ghost use lib.ListN.{length};

@@ -1,5 +1,5 @@
 // Entries of a query with how they were derived: what a body gives is entered for each of its heads.
-// In all functions file and minute are those of the search, which the contracts name.
+// No function here reads the file, and `give_one` reads neither `lists` nor `body`: the contracts name them. How `rules` lays out `codes` and `lists` is in its specs, `Listed`.
 ghost use mathlib.Core.Path.{_≡_};
 ghost use Prim.Native.Nat.{_<_, _≤_};
 ghost use lib.ListN.{length};

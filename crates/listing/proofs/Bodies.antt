@@ -3,13 +3,14 @@ use mathlib.Core.Path.{_≡_, refl, sym, ap, _∙_, subst, subst⁻¹}
 use mathlib.Core.Logic.{_⊎_, inl, inr, _↔_}
 use mathlib.Core.Bool.{Bool, true, false}
 use mathlib.Core.List.{List}
-use Prim.Native.Nat.{ℕ, _+_, _≤_, _<_}
+use Prim.Native.Nat.{ℕ, _+_, _*_, _≤_, _<_}
 use native.Mathlib.Nat.{le-refl}
 use native.Mathlib.Omega.{arith}
+use lib.ListN.{getD}
 use Rattle.meaning.specs.Credentials as M
 use Rattle.meaning.specs.Credentials.{Body, set, role, link, _∩_, _⊙_, _⊗_}
 use Rattle.meaning.proofs.Spans.{covers-in, covers-out}
-use Rattle.file.specs.Format.{roleNumber, meaningOf}
+use Rattle.file.specs.Format.{field, roleOf, roleNumber, meaningOf, bodyOf, withBody, periodOf, credentialIn}
 use Rattle.file.specs.Values.{meantBy}
 use Rattle.file.specs.declared.Role.{Role}
 use Rattle.file.specs.declared.RoleName.{RoleName}
@@ -146,3 +147,14 @@ module _ (at m : ℕ) (x : Credential) {c : M.Credential} (e : meantBy x ≡ c) 
       subst (λ (d : M.Credential). Added 2 (OfCredential m at d) codes sources b h codes′ valid′ lists′ sources′ b′ h′) e
       (added-same (le-refl 2) (λ w u y. (covers-in (meantBy x .period) m f t, y)) (λ w u y. y .1)
       (subst (λ (z : ℕ). Added 2 (OfBody at (meaningOf (x .body)) z) codes sources b h codes′ valid′ lists′ sources′ b′ h′) q a))
+
+-- a credential of kind 0 has no uses
+unused : (at k b s c t Ar w : ℕ) (v : M.Period) (u : Use) → k ≡ 0 → OfBody at (withBody Ar v (bodyOf k b s c t) .statement .body) (withBody Ar v (bodyOf k b s c t) .statement .head) w u → ⊥
+unused at k b s c t Ar w v u e o =
+    let z = subst (λ (x : ℕ). OfBody at (withBody Ar v (bodyOf x b s c t) .statement .body) (withBody Ar v (bodyOf x b s c t) .statement .head) w u) e o in
+    z .2
+
+pub set-added : (f : List ℕ) (at m : ℕ) → getD f (6 + 8 * at) 0 ≡ 0 → {codes valid lists sources : List ℕ} {b h : ℕ} → Room 2 codes valid lists sources b h → Added 2 (OfCredential m at (credentialIn f at)) codes sources b h codes valid lists sources b h
+set-added f at m z r =
+    none-added r
+    (λ w u o. unused at (field f at 0) (field f at 3) (field f at 4) (field f at 5) (field f at 6) (roleNumber (roleOf (field f at 1) (field f at 2))) w (periodOf f at) u (ap (λ (x : ℕ). getD f x 0) (omega arith) ∙ z) (o .1))

@@ -141,7 +141,7 @@ fn list_body(
     )
 }
 
-// The credential at a position, if it is valid at the minute.
+// The credential at a position, if it is valid at the minute. One of kind 0 has no uses.
 fn list_at(
     codes: &mut [u32],
     valid: &mut [u64],
@@ -155,6 +155,9 @@ fn list_at(
     requires { ⌜ Room 2 (now codes) (now valid) (now lists) (now sources) (c .bodies) (c .heads) ⌝ ∗ ⌜ Accepted (now file) × (at < N (now file)) ⌝ }
     ensures { λ r. ⌜ Added 2 (OfCredential minute at (credentialIn (now (file .entry)) at)) (now (codes .entry)) (now (sources .entry)) (c .bodies) (c .heads) (now (codes .exit)) (now (valid .exit)) (now (lists .exit)) (now (sources .exit)) (r .bodies) (r .heads) ⌝ }
 {
+    if file[6 + 8 * at] == 0 {
+        return c;
+    }
     match file::read_credential(file, at) {
         Found::Credential(x) => {
             if minute < x.period.from {

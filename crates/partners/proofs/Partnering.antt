@@ -19,7 +19,7 @@ use Rattle.deriving.specs.declared.Turn.{Turn}
 use Rattle.partners.specs.declared.Progress.{Progress}
 use Rattle.deriving.specs.Gaining.{Keyed, Grown, Has}
 use Rattle.deriving.specs.Offers.{Ready, Adds, Partner, Offered, ToHeads}
-use Rattle.partners.specs.Partners.{Keys, WithOne, Feeds, WithEntry}
+use Rattle.partners.specs.Partners.{FeedsOne, WithOne, FeedsEach, WithEntry}
 use Rattle.partners.specs.Walks.{Known, Among, Progressed}
 use Rattle.deriving.proofs.Heading.{partner-same}
 use Rattle.deriving.proofs.Growing.{grown-refl, level-same, has-grown, gains-none, gains-less}
@@ -41,7 +41,7 @@ module _ (t : Turn) (codes : List ℕ) (body : ℕ) (keys keys′ : List ℕ) (s
   pair-back kind j X l w =
       subst (λ (a : ℕ). Paired kind (setIn a) (setIn (getD keys j 0)) X) here (subst (λ (a : ℕ). Paired kind (setIn (getD keys′ (t .e) 0)) (setIn a) X) (same j l) w)
 
-  pub feeds-same : {kind role : ℕ} → Feeds t codes body keys kind role → Feeds t codes body keys′ kind role
+  pub feeds-same : {kind role : ℕ} → FeedsEach t codes body keys kind role → FeedsEach t codes body keys′ kind role
   feeds-same {kind} w =
       record {
         low = w .low;
@@ -76,7 +76,7 @@ module _ {f : List ℕ} {t : Turn} {keys slots links notes codes lists sources :
             let d = distinct-keys (h .kept .stored) j (c - 1) (omega arith) m (q ∙ sym (found .1)) in
             omega arith
 
-    pub one-offered : Keys t codes body keys key X → c - 1 ≤ t .e → Offered t codes body keys X c
+    pub one-offered : FeedsOne t codes body keys key X → c - 1 ≤ t .e → Offered t codes body keys X c
     one-offered w l =
         record { entry = c - 1; upto = l; single = λ q. absurd (w .double q); double = λ _. omega arith; partner = w .gives (c - 1) l (found .1) }
 
@@ -153,7 +153,7 @@ module _ (t : Turn) (codes : List ℕ) (body : ℕ) (keys : List ℕ) (kind j : 
   pub entry-joined : (kind ≡ 2 → ⊥) → (k : ℕ) → WithEntry t codes body keys kind j k → ToHeads t codes body (bitOr (setIn (getD keys (t .e) 0)) (setIn (getD keys j 0))) k
   entry-joined ne k (l, (X, p, w)) = subst (λ (x : ℕ). ToHeads t codes body x k) (p .joined ne) w
 
-  module _ {role : ℕ} (w : Feeds t codes body keys kind role) (l : j ≤ t .e) (r : roleIn (getD keys j 0) ≡ role) where
+  module _ {role : ℕ} (w : FeedsEach t codes body keys kind role) (l : j ≤ t .e) (r : roleIn (getD keys j 0) ≡ role) where
     offered : (X : ℕ) → Paired kind (setIn (getD keys (t .e) 0)) (setIn (getD keys j 0)) X → Offered t codes body keys X (j + 1)
     offered X p = record { entry = j; upto = l; single = λ q. absurd (w .double q); double = λ _. refl; partner = w .gives j X l r p }
 

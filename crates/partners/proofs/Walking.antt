@@ -12,7 +12,7 @@ use Rattle.deriving.specs.declared.Turn.{Turn}
 use Rattle.partners.specs.declared.Progress.{Progress}
 use Rattle.deriving.specs.Gaining.{Grown}
 use Rattle.deriving.specs.Offers.{Ready, Adds}
-use Rattle.partners.specs.Partners.{Feeds, WithEntry, WithEach}
+use Rattle.partners.specs.Partners.{FeedsEach, WithEntry, WithEach}
 use Rattle.partners.specs.Walks.{Known, Starts, Progressed}
 use Rattle.deriving.proofs.Growing.{grown-trans, gains-none, gains-less, gains-over, gains-then}
 use Rattle.deriving.proofs.Heading.{ready-next, upto-same}
@@ -75,7 +75,7 @@ module _ {f : List ℕ} {t : Turn} {keys slots links notes codes lists sources :
     same : (i : ℕ) → i ≤ t .e → getD keys′ i 0 ≡ getD keys i 0
     same = upto-same h (a .adds .grown (a .few))
 
-    pub along-feeds : Feeds t codes body keys kind role → Feeds t codes body keys′ kind role
+    pub along-feeds : FeedsEach t codes body keys kind role → FeedsEach t codes body keys′ kind role
     along-feeds = feeds-same t codes body keys keys′ same
 
     pub along-role : (c ≡ 0 → ⊥) → (c - 1 < p .entries) × (roleIn (getD keys′ (c - 1) 0) ≡ role)

@@ -2,7 +2,7 @@
 use mathlib.Core.Path.{_≡_}
 use mathlib.Core.List.{List}
 use Prim.Native.Nat.{ℕ, _≤_, _<_}
-use lib.ListN.{length, getD}
+use lib.ListN.{getD}
 use Rattle.store.specs.Entries.{roleIn, setIn}
 use Rattle.pairs.specs.Pairs.{Paired}
 use Rattle.firing.specs.Steps.{kindOf}
@@ -10,7 +10,7 @@ use Rattle.deriving.specs.declared.Turn.{Turn}
 use Rattle.deriving.specs.Offers.{Partner, ToHeads}
 
 -- an entry up to e with the key gives the set by the body, which has two premises
-pub record Keys (t : Turn) (codes : List ℕ) (body : ℕ) (keys : List ℕ) (key set : ℕ) : Type 0 where
+pub record FeedsOne (t : Turn) (codes : List ℕ) (body : ℕ) (keys : List ℕ) (key set : ℕ) : Type 0 where
   pub low : body < t .bodies
   pub double : kindOf codes body ≡ 1 → ⊥
   pub gives : (j : ℕ) → j ≤ t .e → getD keys j 0 ≡ key → Partner t codes body keys j set
@@ -20,7 +20,7 @@ abbrev pub WithOne : Turn → List ℕ → ℕ → List ℕ → ℕ → ℕ → 
 WithOne t codes body keys key set k = (j : ℕ) × (j ≤ t .e) × (getD keys j 0 ≡ key) × ToHeads t codes body set k
 
 -- the entries of the role up to e give by the body, which has two premises, what the kind pairs
-pub record Feeds (t : Turn) (codes : List ℕ) (body : ℕ) (keys : List ℕ) (kind role : ℕ) : Type 0 where
+pub record FeedsEach (t : Turn) (codes : List ℕ) (body : ℕ) (keys : List ℕ) (kind role : ℕ) : Type 0 where
   pub low : body < t .bodies
   pub double : kindOf codes body ≡ 1 → ⊥
   pub small : role < 1024

@@ -1,11 +1,11 @@
 // What an entry gives by a body with other entries up to it: with the one that has a key, or with each of a role.
-// In all functions file and minute are those of the search, which the contracts name.
+// No function here reads the file, and `with_entry` does not read `role`: the contracts name them. How `rules` lays out `lists` is in its specs, `Listed`.
 ghost use mathlib.Core.Path.{_≡_};
 ghost use Prim.Native.Nat.{_+_, _<_, _≤_};
 ghost use lib.ListN.{length, getD};
 ghost use Rattle.store.specs.Entries.{roleIn};
 ghost use Rattle.deriving.specs.Offers.{Ready, Adds, Offered, ToHeads};
-ghost use Rattle.partners.specs.Partners.{Keys, WithOne, Feeds, WithEntry, WithEach};
+ghost use Rattle.partners.specs.Partners.{FeedsOne, WithOne, FeedsEach, WithEntry, WithEach};
 ghost use Rattle.partners.specs.Walks.{Known, Among, Starts, Progressed};
 use deriving::Turn;
 
@@ -37,7 +37,7 @@ pub fn with_one(
     key: u64,
     set: u64,
 ) -> usize
-    requires { ⌜ Ready (now file) t (now keys) (now slots) (now links) (now notes) (now codes) (now lists) (now sources) n ⌝ ∗ ⌜ Keys t (now codes) body (now keys) key set ⌝ }
+    requires { ⌜ Ready (now file) t (now keys) (now slots) (now links) (now notes) (now codes) (now lists) (now sources) n ⌝ ∗ ⌜ FeedsOne t (now codes) body (now keys) key set ⌝ }
     ensures { λ r. ⌜ Adds (now (file .entry)) t (now (keys .entry)) (now (notes .entry)) n (WithOne t (now (codes .entry)) body (now (keys .entry)) key set) (now (keys .exit)) (now (slots .exit)) (now (links .exit)) (now (notes .exit)) r ⌝ }
 {
     let e = t.e;
@@ -150,7 +150,7 @@ fn with_entry(
     role: usize,
     j: usize,
 ) -> Progress
-    requires { ⌜ Ready (now file) t (now keys) (now slots) (now links) (now notes) (now codes) (now lists) (now sources) (p .entries) ⌝ ∗ ⌜ Known t (now codes) body (now keys) (now notes) (p .entries) (now sets) (p .known) ⌝ ∗ ⌜ Feeds t (now codes) body (now keys) kind role ⌝ ∗ ⌜ (room ≤ 64) × (j < p .entries) × (roleIn (getD (now keys) j 0) ≡ role) ⌝ }
+    requires { ⌜ Ready (now file) t (now keys) (now slots) (now links) (now notes) (now codes) (now lists) (now sources) (p .entries) ⌝ ∗ ⌜ Known t (now codes) body (now keys) (now notes) (p .entries) (now sets) (p .known) ⌝ ∗ ⌜ FeedsEach t (now codes) body (now keys) kind role ⌝ ∗ ⌜ (room ≤ 64) × (j < p .entries) × (roleIn (getD (now keys) j 0) ≡ role) ⌝ }
     ensures { λ r. ⌜ Progressed (now (file .entry)) t (now (codes .entry)) body (WithEntry t (now (codes .entry)) body (now (keys .entry)) kind j) (now (keys .entry)) (now (notes .entry)) (p .entries) (now (keys .exit)) (now (slots .exit)) (now (links .exit)) (now (notes .exit)) (now (sets .exit)) r ⌝ }
 {
     let e = t.e;
@@ -246,7 +246,7 @@ pub fn with_each(
     kind: u32,
     role: usize,
 ) -> usize
-    requires { ⌜ Ready (now file) t (now keys) (now slots) (now links) (now notes) (now codes) (now lists) (now sources) n ⌝ ∗ ⌜ length (now sets) ≡ 64 ⌝ ∗ ⌜ Feeds t (now codes) body (now keys) kind role ⌝ }
+    requires { ⌜ Ready (now file) t (now keys) (now slots) (now links) (now notes) (now codes) (now lists) (now sources) n ⌝ ∗ ⌜ length (now sets) ≡ 64 ⌝ ∗ ⌜ FeedsEach t (now codes) body (now keys) kind role ⌝ }
     ensures { λ r. ⌜ Adds (now (file .entry)) t (now (keys .entry)) (now (notes .entry)) n (WithEach t (now (codes .entry)) body (now (keys .entry)) kind role) (now (keys .exit)) (now (slots .exit)) (now (links .exit)) (now (notes .exit)) r ⌝ }
     ensures { λ _. ⌜ length (now (sets .exit)) ≡ 64 ⌝ }
 {

@@ -2,12 +2,12 @@
 use mathlib.Core.Path.{_≡_}
 use mathlib.Core.Logic.{_⊎_}
 use mathlib.Core.List.{List}
-use Prim.Native.Nat.{ℕ, _+_, _%_, _≤_, _<_}
+use Prim.Native.Nat.{ℕ, _≤_, _<_}
 use lib.Dec.{T}
 use lib.ListN.{getD}
 use Rattle.meaning.specs.Credentials.{Body, set, role, link, _∩_, _⊙_, _⊗_, Statement, covers, Credential, credentialAt}
 use Rattle.meaning.specs.Sequence.{Gives}
-use Rattle.store.specs.Entries.{keyOf, roleIn}
+use Rattle.store.specs.Entries.{keyOf}
 use Rattle.firing.specs.Steps.{familyOf}
 use Rattle.deriving.specs.declared.Turn.{Turn}
 use Rattle.deriving.specs.Gaining.{Keyed}

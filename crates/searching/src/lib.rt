@@ -1,10 +1,10 @@
-// The search at one minute: all memberships, each with how it was derived, in the order of their least levels.
-// In all functions file and minute are those of the search, which the contracts name.
+// The search at one minute: all memberships, each with how it was derived, at its least level.
+// `by_family`, `fire` and `fire_all` do not read the file: the contracts name its credentials.
 ghost use mathlib.Core.Path.{_≡_};
 ghost use mathlib.Core.Bool.{_&&_};
 ghost use Prim.Native.Nat.{_<_, _≤_};
 ghost use lib.Dec.{leb, ltb};
-ghost use lib.ListN.{length, getD};
+ghost use lib.ListN.{length};
 ghost use Rattle.file.specs.Conditions.{Accepted};
 ghost use Rattle.file.specs.Format.{roleNumber, credentials, N};
 ghost use Rattle.bodies.specs.Bodies.{FamilyOf};
@@ -268,7 +268,8 @@ fn fire_all(
     r
 }
 
-// Finds all memberships at the minute; an answer above the limit says that there are more. The first half of `keys` is room for listing.
+// Finds all memberships at the minute; an answer above the limit says that there are more. The first half of `keys` is room for listing. What `codes`,
+// `lists` and `sources` hold then is not read again.
 pub fn search(
     keys: &mut [u64],
     slots: &mut [u16],
