@@ -312,12 +312,18 @@ def heads_two():
     return f
 
 
-def meeting():
-    """⊗ over a large role whose sets all meet, for some two hundred heads."""
+def large_role():
+    """A file with a role of 960 sets that all have entity 31."""
     f = File()
     p = f.fresh()
     f.member(p, 31)
     many_sets(f, p, range(9), ((0, 9), (0, 1, 9, 10), (0, 1, 2, 9, 10, 11)))
+    return f, p
+
+
+def meeting():
+    """⊗ over a large role whose sets all meet, for some two hundred heads."""
+    f, p = large_role()
     while f.room():
         f.say(APART, f.fresh(), p, p)
     return f
@@ -383,10 +389,7 @@ def linked():
 
 def meets():
     """Intersections of a large role with roles that have nothing."""
-    f = File()
-    p = f.fresh()
-    f.member(p, 31)
-    many_sets(f, p, range(9), ((0, 9), (0, 1, 9, 10), (0, 1, 2, 9, 10, 11)))
+    f, p = large_role()
     while f.room():
         f.say(MEET, f.fresh(), p, f.fresh())
     return f
