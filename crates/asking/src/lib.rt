@@ -4,9 +4,8 @@ ghost use mathlib.Core.Bool.{_&&_};
 ghost use Prim.Native.Nat.{_/_, _%_, _^_, _≤_};
 ghost use lib.Dec.{eqb, ltb};
 ghost use Rattle.file.specs.Reading.{between};
-ghost use Rattle.file.specs.Values.{firstRefusal};
-ghost use Rattle.asking.specs.Asking.{request, stepLists, asking};
-use file::Refusal;
+ghost use Rattle.asking.specs.Asking.{request, stepLists};
+ghost use Rattle.asking.specs.Admitting.{Admits};
 
 // Four lengths that are the same, 1 to 1,024.
 fn one_length(credential: usize, first: usize, second: usize, sets: usize) -> bool
@@ -26,8 +25,26 @@ fn within(entities: u32, names: u32, role: u32, set: u32) -> bool
     (role / 32 < entities) & (role % 32 < names) & ((set as u64) < 1u64 << entities)
 }
 
-// Number and place of the first refusal of 1 to 9, 11 and 12; both 0 where there is none.
+// Number and place of the first refusal of 1 to 9, 11 and 12; where there is none, 0 and 0, and how many credentials the policy then has.
+pub struct Admission {
+    pub number: u32,
+    pub place: u32,
+    pub credentials: usize,
+}
+
+fn refused(number: u32, place: u32) -> Admission
+    ensures { λ r. ⌜ r ≡ record { number = number; place = place; credentials = 0 } ⌝ }
+{
+    Admission {
+        number,
+        place,
+        credentials: 0,
+    }
+}
+
+// Refusals 1 to 9, 11 and 12; where there is none, the policy then has the file's credentials.
 pub fn judge(
+    policy: &mut [u64; 512],
     file: &[u8],
     role: u32,
     set: u32,
@@ -36,37 +53,26 @@ pub fn judge(
     first: &[u32],
     second: &[u32],
     sets: &[u32],
-) -> Refusal
-    ensures { λ r. ⌜ r ≡ firstRefusal (asking (now (file .entry)) (request role set minute) (stepLists (now (credential .entry)) (now (first .entry)) (now (second .entry)) (now (sets .entry)))) ⌝ }
+) -> Admission
+    ensures { λ r. ⌜ Admits (now (file .entry)) (request role set minute) (stepLists (now (credential .entry)) (now (first .entry)) (now (second .entry)) (now (sets .entry))) (now (policy .exit)) r ⌝ }
 {
-    let e = ends::ends_of(file);
-    if e.number != 0 {
-        return Refusal {
-            number: e.number,
-            place: e.place,
-        };
+    let mut ends = ends::no_ends();
+    let s = ends::survey(policy, &mut ends, file);
+    if s.number != 0 {
+        return refused(s.number, s.place);
     }
     if !one_length(credential.len(), first.len(), second.len(), sets.len()) {
-        return Refusal {
-            number: 9,
-            place: 0,
-        };
+        return refused(9, 0);
     }
-    let h = file::read_head(file);
-    if !(within(h.entities, h.names, role, set) & (set != 0)) {
-        return Refusal {
-            number: 11,
-            place: 0,
-        };
+    if !(within(s.entities, s.names, role, set) & (set != 0)) {
+        return refused(11, 0);
     }
     if minute == 4294967295 {
-        return Refusal {
-            number: 12,
-            place: 0,
-        };
+        return refused(12, 0);
     }
-    Refusal {
+    Admission {
         number: 0,
         place: 0,
+        credentials: s.credentials,
     }
 }

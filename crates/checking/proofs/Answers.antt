@@ -8,6 +8,7 @@ use lib.Dec.{T, eqb, leb, leb→le, eqb→eq}
 use lib.ListN.{length, getD, take}
 use lib.Seq.{length-take-le}
 use Rattle.meaning.specs.Lists.{upFrom, below}
+use Rattle.meaning.specs.Credentials.{Credential}
 use Rattle.meaning.specs.Proofs.{Shown, nothing, shownBy}
 use Rattle.meaning.proofs.Tests.{and-left, and-right}
 use Rattle.file.specs.declared.Refusal.{Refusal}
@@ -18,8 +19,9 @@ use Rattle.file.specs.Reading.{between}
 use Rattle.asking.specs.Asking.{Request, StepLists, stepIn, stepsIn, size, oneLength, asking, Askable}
 use Rattle.asking.proofs.Asked.{askable-passes, asked-refused, asked-passed, askable}
 use Rattle.checking.specs.Checking.{stepHolds, lastShown, lastRow, partBefore, proofRows, checking}
-use Rattle.checking.specs.Steps.{shownAt, Walkable, Walked, concluding}
-use Rattle.checking.proofs.Counting.{getD-counted}
+use Rattle.steps.specs.Steps.{shownAt}
+use Rattle.checking.specs.Walks.{Walkable, Walked, concluding}
+use Rattle.steps.proofs.Counting.{getD-counted}
 
 -- ---- the rows of 15, where `test i` says that step i holds
 
@@ -55,32 +57,32 @@ module _ {A : Type 0} (a : A) (test : ℕ → Bool) where
 -- ---- from what the walk leaves
 
 -- whether step i holds
-abbrev pub holdsAt : List ℕ → ℕ → StepLists → ℕ → Bool
-holdsAt f m t i = stepHolds (credentials f) m (stepsIn t i) (stepIn t i)
+abbrev pub holdsAt : List Credential → ℕ → StepLists → ℕ → Bool
+holdsAt cs m t i = stepHolds cs m (stepsIn t i) (stepIn t i)
 
 -- the queried membership is shown
 abbrev pub asked : Request → Shown → Bool
 asked q x = eqb (x .role) (q .role) && eqb (x .set) (q .set)
 
-module _ (f : List ℕ) (q : Request) (t : StepLists) (n : ℕ) where
+module _ (cs : List Credential) (q : Request) (t : StepLists) (n : ℕ) where
   abbrev holds : ℕ → Bool
-  holds = holdsAt f (q .minute) t
+  holds = holdsAt cs (q .minute) t
 
-  pub broken-at : (p : ℕ) → p < n → ((j : ℕ) → j < p → holds j ≡ true) → holds p ≡ false → concluding f q t n ≡ refused 15 p
+  pub broken-at : (p : ℕ) → p < n → ((j : ℕ) → j < p → holds j ≡ true) → holds p ≡ false → concluding cs q t n ≡ refused 15 p
   unfolding concluding
-  broken-at p l h e = steps-give (lastShown f t n .level) holds p n (lastRow f q t n ∷ []) l h e
+  broken-at p l h e = steps-give (lastShown cs t n .level) holds p n (lastRow cs q t n ∷ []) l h e
 
   module _ (all : (j : ℕ) → j < n → holds j ≡ true) where
-    pub other-last : asked q (lastShown f t n) ≡ false → concluding f q t n ≡ refused 16 0
+    pub other-last : asked q (lastShown cs t n) ≡ false → concluding cs q t n ≡ refused 16 0
     unfolding concluding
-    other-last e = steps-pass (lastShown f t n .level) holds n (lastRow f q t n ∷ []) all ∙ rw e refl
+    other-last e = steps-pass (lastShown cs t n .level) holds n (lastRow cs q t n ∷ []) all ∙ rw e refl
 
-    pub level-last : asked q (lastShown f t n) ≡ true → concluding f q t n ≡ done (lastShown f t n .level)
+    pub level-last : asked q (lastShown cs t n) ≡ true → concluding cs q t n ≡ done (lastShown cs t n .level)
     unfolding concluding
-    level-last e = steps-pass (lastShown f t n .level) holds n (lastRow f q t n ∷ []) all ∙ rw e refl
+    level-last e = steps-pass (lastShown cs t n .level) holds n (lastRow cs q t n ∷ []) all ∙ rw e refl
 
-  module _ {roles levels : List ℕ} {r : ℕ} (w : Walked f (q .minute) t n roles levels r) where
-    pub walk-broken : r < n → refused 15 r ≡ concluding f q t n
+  module _ {roles levels : List ℕ} {r : ℕ} (w : Walked cs (q .minute) t n roles levels r) where
+    pub walk-broken : r < n → refused 15 r ≡ concluding cs q t n
     walk-broken l = sym (broken-at r l (w .walking .kept) (w .stops l))
 
     module _ (some : 1 ≤ n) (l : n ≤ r) where
@@ -90,15 +92,15 @@ module _ (f : List ℕ) (q : Request) (t : StepLists) (n : ℕ) where
       all : (j : ℕ) → j < n → holds j ≡ true
       all j h = w .walking .kept j (omega arith)
 
-      last : lastShown f t n ≡ shownAt roles (t .sets) levels (n - 1)
+      last : lastShown cs t n ≡ shownAt roles (t .sets) levels (n - 1)
       last =
-          ap (λ (k : ℕ). getD (shownBy (credentials f) [] (stepsIn t k)) (n - 1) nothing) (sym whole)
+          ap (λ (k : ℕ). getD (shownBy cs [] (stepsIn t k)) (n - 1) nothing) (sym whole)
           ∙ ap (λ (b : List Shown). getD b (n - 1) nothing) (sym (w .walking .shown)) ∙ getD-counted (shownAt roles (t .sets) levels) r (n - 1) nothing (omega arith)
 
-      pub walk-other : asked q (shownAt roles (t .sets) levels (n - 1)) ≡ false → refused 16 0 ≡ concluding f q t n
+      pub walk-other : asked q (shownAt roles (t .sets) levels (n - 1)) ≡ false → refused 16 0 ≡ concluding cs q t n
       walk-other e = sym (other-last all (ap (asked q) last ∙ e))
 
-      pub walk-level : asked q (shownAt roles (t .sets) levels (n - 1)) ≡ true → done (getD levels (n - 1) 0) ≡ concluding f q t n
+      pub walk-level : asked q (shownAt roles (t .sets) levels (n - 1)) ≡ true → done (getD levels (n - 1) 0) ≡ concluding cs q t n
       walk-level e = sym (level-last all (ap (asked q) last ∙ e) ∙ ap (λ (x : Shown). done (x .level)) last)
 
 -- ---- from the refusals of the request
@@ -106,33 +108,33 @@ module _ (f : List ℕ) (q : Request) (t : StepLists) (n : ℕ) where
 module _ (f : List ℕ) (q : Request) (t : StepLists) (n : ℕ) where
   -- the level, where nothing is refused
   abbrev pub level : ℕ
-  level = lastShown f (partBefore n t) n .level
+  level = lastShown (credentials f) (partBefore n t) n .level
 
   -- no refusal of the request is given
-  pub after-request : Askable f q t → checking f q t n ≡ first (proofRows f q t n) level
+  pub after-request : Askable f q t → checking f q t n ≡ first (proofRows (credentials f) q t n) level
   unfolding checking
-  after-request a = askable-passes f q t a (proofRows f q t n) level
+  after-request a = askable-passes f q t a (proofRows (credentials f) q t n) level
 
   module _ (r : Refusal) (e : r ≡ firstRefusal (asking f q t)) where
     pub request-refused : (r .number ≡ 0 → ⊥) → refused (r .number) (r .place) ≡ checking f q t n
     unfolding checking
-    request-refused h = sym (asked-refused f q t r e h (proofRows f q t n) level)
+    request-refused h = sym (asked-refused f q t r e h (proofRows (credentials f) q t n) level)
 
     module _ (z : r .number ≡ 0) where
       pub count-refused : between 1 (size t) n ≡ false → refused 14 0 ≡ checking f q t n
       unfolding checking
-      count-refused b = sym (asked-passed f q t r e z (proofRows f q t n) level ∙ rw b refl)
+      count-refused b = sym (asked-passed f q t r e z (proofRows (credentials f) q t n) level ∙ rw b refl)
 
       module _ (b : between 1 (size t) n ≡ true) where
-        pub count-passed : concluding f q (partBefore n t) n ≡ checking f q t n
+        pub count-passed : concluding (credentials f) q (partBefore n t) n ≡ checking f q t n
         unfolding checking concluding
-        count-passed = sym (asked-passed f q t r e z (proofRows f q t n) level ∙ rw b refl)
+        count-passed = sym (asked-passed f q t r e z (proofRows (credentials f) q t n) level ∙ rw b refl)
 
         counted : (1 ≤ n) × (n ≤ size t)
         counted = let s : T (between 1 (size t) n) = subst⁻¹ T b tt in (leb→le 1 n (and-left (leb 1 n) (leb n (size t)) s), leb→le n (size t) (and-right (leb 1 n) (leb n (size t)) s))
 
-        pub walkable : {roles levels : List ℕ} → length roles ≡ 1024 → length levels ≡ 1024 → Walkable f (partBefore n t) n roles levels × (1 ≤ n)
-        walkable h k =
+        pub walkable : {c : ℕ} {roles levels : List ℕ} → c ≤ 256 → length roles ≡ 1024 → length levels ≡ 1024 → Walkable c (partBefore n t) n roles levels × (1 ≤ n)
+        walkable m h k =
             let a = askable f q t r e z in
             let s : T (oneLength t) = subst⁻¹ T (a .lists) tt in
             let x = eqb (length (t .first)) (size t) in
@@ -147,4 +149,4 @@ module _ (f : List ℕ) (q : Request) (t : StepLists) (n : ℕ) where
             let few = leb→le (size t) 1024 (and-right (leb 1 (size t)) (leb (size t) 1024) (and-right (x && y && v) u s)) in
             let c = counted in
             let part : (l : List ℕ) → length l ≡ size t → length (take n l) ≡ n = λ l o. length-take-le n l (omega arith) in
-            (record { accepted = a .accepted; credential = part (t .credential) refl; first = part (t .first) ef; second = part (t .second) es; sets = part (t .sets) ev; few = omega arith; rooms = (h, k) }, c .0)
+            (record { credentials = m; credential = part (t .credential) refl; first = part (t .first) ef; second = part (t .second) es; sets = part (t .sets) ev; few = omega arith; rooms = (h, k) }, c .0)

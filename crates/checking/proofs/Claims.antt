@@ -39,5 +39,5 @@ module _ (f : List ℕ) (q : Request) (t : StepLists) (n : ℕ) where
 
       -- 16 is given exactly when all steps keep the rules and the last shows another membership.
       pub other-membership : checking f q t n ≡ refused 16 0
-          ↔ (T (allKeep (credentials f) (q .minute) [] (stepsIn t n)) × ¬ ((lastShown f t n .role ≡ q .role) × (lastShown f t n .set ≡ q .set)))
+          ↔ (T (allKeep (credentials f) (q .minute) [] (stepsIn t n)) × ¬ ((lastShown (credentials f) t n .role ≡ q .role) × (lastShown (credentials f) t n .set ≡ q .set)))
       other-membership = Passing.other-membership f q t n a some few

@@ -1,6 +1,3 @@
-pub mod Counting
-pub mod Bodies
-pub mod Citing
 pub mod Walks
 pub mod Answers
 pub mod Passing

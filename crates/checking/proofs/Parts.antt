@@ -1,22 +1,22 @@
 -- Steps at and past the count play no part.
 use mathlib.Core.Path.{_≡_, sym, ap, ap₂, _∙_}
 use mathlib.Core.Bool.{Bool, _&&_, not}
-use mathlib.Core.List.{List, [], _∷_, _++_, map}
+use mathlib.Core.List.{List, [], _∷_, _++_}
 use Prim.Native.Nat.{ℕ, _-_, _<_, _≤_}
 use native.Mathlib.Nat.{le-refl}
 use native.Mathlib.Omega.{arith}
 use lib.Dec.{eqb}
 use lib.ListN.{length, getD}
 use lib.Seq.{getD-take}
-use Rattle.meaning.specs.Lists.{below}
+use Rattle.meaning.specs.Credentials.{Credential}
 use Rattle.meaning.specs.Proofs.{Step, Shown, nothing, shownBy}
 use Rattle.file.specs.Refusals.{Row, first, _when_, _at_when_}
 use Rattle.file.specs.Format.{credentials}
 use Rattle.file.specs.Reading.{between, reading}
 use Rattle.asking.specs.Asking.{Request, StepLists, stepIn, stepsIn, size, oneLength, within, asking}
 use Rattle.checking.specs.Checking.{stepHolds, stepRow, stepRows, lastShown, partBefore, checking}
-use Rattle.checking.specs.Steps.{concluding}
-use Rattle.checking.proofs.Counting.{counted-same}
+use Rattle.checking.specs.Walks.{concluding}
+use Rattle.steps.proofs.Counting.{counted-same}
 
 -- of one length, and the same entries below n
 pub record Agree (n : ℕ) (l k : List ℕ) : Type 0 where
@@ -35,15 +35,15 @@ module _ (n : ℕ) (t u : StepLists) (same : (i : ℕ) → i < n → stepIn t i 
   same-steps : (k : ℕ) → k ≤ n → stepsIn t k ≡ stepsIn u k
   same-steps k l = counted-same (stepIn t) (stepIn u) k (λ i h. same i (omega arith))
 
-  module _ (f : List ℕ) (q : Request) where
-    same-last : lastShown f t n ≡ lastShown f u n
-    same-last = ap (λ (ss : List Step). getD (shownBy (credentials f) [] ss) (n - 1) nothing) (same-steps n (le-refl n))
+  module _ (cs : List Credential) (q : Request) where
+    same-last : lastShown cs t n ≡ lastShown cs u n
+    same-last = ap (λ (ss : List Step). getD (shownBy cs [] ss) (n - 1) nothing) (same-steps n (le-refl n))
 
-    same-rows : stepRows f q t n ≡ stepRows f q u n
+    same-rows : stepRows cs q t n ≡ stepRows cs q u n
     same-rows =
         ap₂ (λ (l : List Row) (x : Shown). l ++ 16 when (not (eqb (x .role) (q .role) && eqb (x .set) (q .set))) ∷ [])
-        (counted-same (stepRow f (q .minute) t) (stepRow f (q .minute) u) n
-        (λ i h. ap₂ (λ (ss : List Step) (s : Step). 15 at i when (not (stepHolds (credentials f) (q .minute) ss s))) (same-steps i (omega arith)) (same i h)))
+        (counted-same (stepRow cs (q .minute) t) (stepRow cs (q .minute) u) n
+        (λ i h. ap₂ (λ (ss : List Step) (s : Step). 15 at i when (not (stepHolds cs (q .minute) ss s))) (same-steps i (omega arith)) (same i h)))
         same-last
 
 -- the part before n has the steps before n
@@ -58,9 +58,9 @@ module _ (n : ℕ) (t : StepLists) where
         set = getD-take n (t .sets) i 0 h j;
       }
 
-  pub part-concludes : (f : List ℕ) (q : Request) → concluding f q (partBefore n t) n ≡ concluding f q t n
+  pub part-concludes : (cs : List Credential) (q : Request) → concluding cs q (partBefore n t) n ≡ concluding cs q t n
   unfolding concluding
-  part-concludes f q = ap₂ (λ (l : List Row) (x : Shown). first l (x .level)) (same-rows n (partBefore n t) t part-step f q) (same-last n (partBefore n t) t part-step f q)
+  part-concludes cs q = ap₂ (λ (l : List Row) (x : Shown). first l (x .level)) (same-rows n (partBefore n t) t part-step cs q) (same-last n (partBefore n t) t part-step cs q)
 
 module _ {n : ℕ} {t u : StepLists} (a : AgreeBelow n t u) where
   part-same : (i : ℕ) → i < n → stepIn (partBefore n t) i ≡ stepIn (partBefore n u) i
@@ -83,4 +83,4 @@ module _ {n : ℕ} {t u : StepLists} (a : AgreeBelow n t u) where
 
     pub same-answer : checking f q t n ≡ checking f q u n
     unfolding checking
-    same-answer = λ j. first (same-asking j ++ (14 when (not (between 1 (same-size j) n)) ∷ same-rows n (partBefore n t) (partBefore n u) part-same f q j)) (same-last n (partBefore n t) (partBefore n u) part-same f q j .level)
+    same-answer = λ j. first (same-asking j ++ (14 when (not (between 1 (same-size j) n)) ∷ same-rows n (partBefore n t) (partBefore n u) part-same (credentials f) q j)) (same-last n (partBefore n t) (partBefore n u) part-same (credentials f) q j .level)

@@ -1,5 +1,5 @@
 -- The steps of a proof, one after another.
-use mathlib.Core.Path.{_≡_, refl, sym, ap, ap₂, _∙_}
+use mathlib.Core.Path.{_≡_, refl, sym, ap, ap₂, _∙_, subst}
 use mathlib.Core.Bool.{true, false, _&&_}
 use mathlib.Core.List.{List, [], _∷_, _++_, map}
 use Prim.Native.Nat.{ℕ, suc, _+_, _<_, _≤_}
@@ -14,12 +14,12 @@ use Rattle.meaning.specs.Lists.{below}
 use Rattle.meaning.specs.Credentials.{Credential, credentialAt}
 use Rattle.meaning.specs.Proofs.{Step, Shown, keeps, showing, shownBy}
 use Rattle.meaning.proofs.Proofs.{shown-append}
-use Rattle.file.specs.Format.{credentials}
 use Rattle.asking.specs.Asking.{StepLists, stepIn, stepsIn}
 use Rattle.checking.specs.Checking.{stepHolds}
-use Rattle.checking.specs.Steps.{shownAt, shownIn, Known, Judges, Walkable, Walking, Walked}
-use Rattle.checking.specs.declared.Judged.{Judged}
-use Rattle.checking.proofs.Counting.{length-counted, counted-snoc, counted-same}
+use Rattle.steps.specs.Steps.{shownAt, shownIn, Known, Judges}
+use Rattle.steps.specs.declared.Judged.{Judged}
+use Rattle.checking.specs.Walks.{Walkable, Walking, Walked}
+use Rattle.steps.proofs.Counting.{length-counted, counted-snoc, counted-same}
 
 module _ (cs : List Credential) (t : StepLists) where
   -- the credential of step i
@@ -45,22 +45,22 @@ module _ (roles sets levels : List ℕ) (i r l : ℕ) where
   store-last h k =
       ap₂ {C = Shown} (λ (x y : ℕ). record { role = x; set = getD sets i 0; level = y }) (getD-set-same roles i r 0 h) (getD-set-same levels i l 0 k)
 
-module _ (f : List ℕ) (m : ℕ) (t : StepLists) where
-  abbrev cs : List Credential
-  cs = credentials f
-
-  pub walking-none : {n : ℕ} {roles levels : List ℕ} → Walkable f t n roles levels → Walking f m t roles levels 0
+module _ (cs : List Credential) (m : ℕ) (t : StepLists) where
+  pub walking-none : {c n : ℕ} {roles levels : List ℕ} → Walkable c t n roles levels → Walking cs m t roles levels 0
   walking-none k = record { rooms = k .rooms; kept = λ j h. absurd (not-suc-le-zero h); shown = refl; low = λ j h. absurd (not-suc-le-zero h) }
 
-  pub known : {n i : ℕ} {roles₀ levels₀ roles levels : List ℕ} → Walkable f t n roles₀ levels₀ → i < n → Walking f m t roles levels i → Known roles (t .sets) levels i
-  known k h w = let s = k .sets in let e = k .few in let r = w .rooms in record { long = (omega arith, omega arith, omega arith); few = omega arith; low = w .low }
+  pub known : {c n i : ℕ} {roles₀ levels₀ roles levels : List ℕ} → Walkable c t n roles₀ levels₀ → i < n → Walking cs m t roles levels i → Known (t .sets) levels i
+  known k h w = let s = k .sets in let e = k .few in record { long = omega arith; few = omega arith; low = w .low }
 
-  module _ {roles levels : List ℕ} {i : ℕ} (w : Walking f m t roles levels i) {x : Judged} (j : Judges cs m (shownIn roles (t .sets) levels i) (stepIn t i) x) where
+  module _ {roles levels : List ℕ} {i : ℕ} (w : Walking cs m t roles levels i) {s : Step} {x : Judged} (same : s ≡ stepIn t i) (judged : Judges cs m (shownIn roles (t .sets) levels i) s x) where
+    j : Judges cs m (shownIn roles (t .sets) levels i) (stepIn t i) x
+    j = subst (λ (s : Step). Judges cs m (shownIn roles (t .sets) levels i) s x) same judged
+
     tested : stepHolds cs m (stepsIn t i) (stepIn t i) ≡ x .holds
     tested = sym (j .holds ∙ ap (λ (b : List Shown). ltb (stepIn t i .credential) (length cs) && keeps m (creditedAt cs t i) b (stepIn t i)) (w .shown))
 
     -- a step that breaks the rules
-    pub walk-stops : {n : ℕ} → i < n → x .holds ≡ false → Walked f m t n roles levels i
+    pub walk-stops : {n : ℕ} → i < n → x .holds ≡ false → Walked cs m t n roles levels i
     walk-stops h e = record { within = omega arith; walking = w; stops = λ _. tested ∙ e }
 
     -- a step that keeps them
@@ -76,7 +76,7 @@ module _ (f : List ℕ) (m : ℕ) (t : StepLists) where
           (store-last roles (t .sets) levels i (x .role) (x .level) (omega arith) (omega arith) ∙ j .shows e ∙ ap (λ (b : List Shown). showing (creditedAt cs t i) b (stepIn t i)) (w .shown))
           ∙ sym (shown-next cs t i) ∙ ap (λ (n : ℕ). shownBy cs [] (stepsIn t n)) (sym (add-one i))
 
-      pub walk-goes-on : Walking f m t (set roles i (x .role)) (set levels i (x .level)) (i + 1)
+      pub walk-goes-on : Walking cs m t (set roles i (x .role)) (set levels i (x .level)) (i + 1)
       walk-goes-on =
           let r = w .rooms in
           let n = length-counted (shownAt roles (t .sets) levels) i in
@@ -89,5 +89,5 @@ module _ (f : List ℕ) (m : ℕ) (t : StepLists) where
                 (omega (arith, j .low, getD-set-same levels i (x .level) 0 (omega arith)));
           }
 
-  pub walk-ends : {n : ℕ} {roles levels : List ℕ} {i : ℕ} → n ≤ i → i ≤ n → Walking f m t roles levels i → Walked f m t n roles levels i
+  pub walk-ends : {n : ℕ} {roles levels : List ℕ} {i : ℕ} → n ≤ i → i ≤ n → Walking cs m t roles levels i → Walked cs m t n roles levels i
   walk-ends h k w = record { within = k; walking = w; stops = λ l. absurd (omega arith) }

@@ -19,32 +19,32 @@ abbrev pub stepHolds : List Credential → ℕ → List Step → Step → Bool
 stepHolds cs m before s = ltb (s .credential) (length cs) && keeps m (credentialAt cs (s .credential)) (shownBy cs [] before) s
 
 -- 15, for the first step that does not
-abbrev pub stepRow : List ℕ → ℕ → StepLists → ℕ → Row
-stepRow f m t i = 15 at i when (not (stepHolds (credentials f) m (stepsIn t i) (stepIn t i)))
+abbrev pub stepRow : List Credential → ℕ → StepLists → ℕ → Row
+stepRow cs m t i = 15 at i when (not (stepHolds cs m (stepsIn t i) (stepIn t i)))
 
 -- what the last of n steps shows
-abbrev pub lastShown : List ℕ → StepLists → ℕ → Shown
-lastShown f t n = getD (shownBy (credentials f) [] (stepsIn t n)) (n - 1) nothing
+abbrev pub lastShown : List Credential → StepLists → ℕ → Shown
+lastShown cs t n = getD (shownBy cs [] (stepsIn t n)) (n - 1) nothing
 
 -- 16: the last step isn't the queried membership
-abbrev pub lastRow : List ℕ → Request → StepLists → ℕ → Row
-lastRow f q t n = 16 when (not (eqb (lastShown f t n .role) (q .role) && eqb (lastShown f t n .set) (q .set)))
+abbrev pub lastRow : List Credential → Request → StepLists → ℕ → Row
+lastRow cs q t n = 16 when (not (eqb (lastShown cs t n .role) (q .role) && eqb (lastShown cs t n .set) (q .set)))
 
 -- 15 and 16
-abbrev pub stepRows : List ℕ → Request → StepLists → ℕ → List Row
-stepRows f q t n = map (stepRow f (q .minute) t) (below n) ++ lastRow f q t n ∷ []
+abbrev pub stepRows : List Credential → Request → StepLists → ℕ → List Row
+stepRows cs q t n = map (stepRow cs (q .minute) t) (below n) ++ lastRow cs q t n ∷ []
 
 -- the entries before the step count, which are all that is read
 abbrev pub partBefore : ℕ → StepLists → StepLists
 partBefore n t = stepLists (take n (t .credential)) (take n (t .first)) (take n (t .second)) (take n (t .sets))
 
 -- 14 to 16; 14: step count outside 1 to L
-abbrev pub proofRows : List ℕ → Request → StepLists → ℕ → List Row
-proofRows f q t n = 14 when (not (between 1 (size t) n)) ∷ stepRows f q (partBefore n t) n
+abbrev pub proofRows : List Credential → Request → StepLists → ℕ → List Row
+proofRows cs q t n = 14 when (not (between 1 (size t) n)) ∷ stepRows cs q (partBefore n t) n
 
 -- the level of the proof, which is its last step's
 unfoldable pub checking : List ℕ → Request → StepLists → ℕ → Outcome ℕ
-checking f q t n = first (asking f q t ++ proofRows f q t n) (lastShown f (partBefore n t) n .level)
+checking f q t n = first (asking f q t ++ proofRows (credentials f) q t n) (lastShown (credentials f) (partBefore n t) n .level)
 
 -- document 01's number and values for each case of the answer
 abbrev pub says : Checked → Outcome ℕ

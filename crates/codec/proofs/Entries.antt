@@ -6,9 +6,8 @@ use native.Mathlib.Nat.{mul-suc, mul-zero, pow-zero, pow-suc, pow-le-pow-right, 
 use native.Mathlib.Numerals.{add-one}
 use native.Mathlib.Omega.{arith}
 use lib.ListN.{length, take, drop, getD, set, replicate, length-append, length-set, replicate-append-replicate}
-use lib.Seq.{drop-length, take-length, drop-cons, take-at, drop-at, take-suc, drop-append-add, drop-drop, length-take-le, set-at, append-snoc, take-suc-set, take-all}
+use lib.Seq.{drop-cons, take-at, drop-at, take-suc, drop-append-add, drop-drop, length-take-le, set-at, append-snoc, take-suc-set, take-all}
 use borrow.Rule.Slice.PartMut.{midOf, putMid, post-is, mid-len, same-len-mid}
-use Rattle.meaning.specs.Lists.{each}
 use Rattle.codec.specs.Bytes.{bytes, entry, bytesOf, firstEntries, entries}
 
 -- ---- lengths
@@ -26,6 +25,9 @@ length-bytesOf k (x ∷ xs) =
 pub length-first : (k n : ℕ) (bs : List ℕ) → length (firstEntries k n bs) ≡ n
 length-first k zero bs = refl
 length-first k (suc n) bs = ap suc (length-first k n (drop k bs))
+
+pub length-entries : (k : ℕ) (bs : List ℕ) → length (entries k bs) ≡ length bs / k
+length-entries k bs = length-first k (length bs / k) bs
 
 -- ---- one entry
 
@@ -175,18 +177,18 @@ module _ (k n : ℕ) (bs d : List ℕ) where
   pub decode-all : (i : ℕ) {l : List ℕ} → Decoded k n bs d i l → n ≤ i → l ≡ firstEntries k n bs ++ drop n d
   decode-all i r h = let e : i ≡ n = omega (arith, r .within) in r .same ∙ ap (λ (m : ℕ). firstEntries k m bs ++ drop m d) e
 
--- the bytes of i entries of s in the list d
-pub record Encoded (k : ℕ) (s d : List ℕ) (i : ℕ) (l : List ℕ) : Type 0 where
-  pub within : i ≤ length s
+-- the bytes of i of n entries of s in the list d
+pub record Encoded (k n : ℕ) (s d : List ℕ) (i : ℕ) (l : List ℕ) : Type 0 where
+  pub within : i ≤ n
   pub long : length l ≡ length d
   pub same : l ≡ bytesOf k (take i s) ++ drop (k * i) d
 
-module _ (k : ℕ) (s d : List ℕ) where
-  pub encode-none : Encoded k s d 0 d
+module _ (k n : ℕ) (s d : List ℕ) where
+  pub encode-none : Encoded k n s d 0 d
   encode-none = record { within = omega arith; long = refl; same = ap (λ (m : ℕ). drop m d) (sym (mul-zero k)) }
 
-  pub encode-more : (i : ℕ) {l : List ℕ} → Encoded k s d i l → i < length s → k * i + k ≤ length d → {t : List ℕ} → length t ≡ length (part k i l) → t ≡ bytes (length (part k i l)) (getD s i 0) → Encoded k s d (i + 1) (putMid (k * i) (k * i + k - k * i) l t)
-  encode-more i {l} r low h {t} z v =
+  pub encode-more : (i : ℕ) {l : List ℕ} → Encoded k n s d i l → i < n → n ≤ length s → k * i + k ≤ length d → {t : List ℕ} → length t ≡ length (part k i l) → t ≡ bytes (length (part k i l)) (getD s i 0) → Encoded k n s d (i + 1) (putMid (k * i) (k * i + k - k * i) l t)
+  encode-more i {l} r low few h {t} z v =
       let p = bytesOf k (take i s) in
       let q : length p ≡ k * i = length-bytesOf k (take i s) ∙ ap (λ (x : ℕ). k * x) (length-take-le i s (omega arith)) in
       let w : t ≡ bytes k (getD s i 0) = v ∙ ap (λ (m : ℕ). bytes m (getD s i 0)) (part-length k i l (omega (arith, r .long))) in
@@ -196,14 +198,12 @@ module _ (k : ℕ) (s d : List ℕ) where
       ∙ drop-drop k (k * i) d ∙ ap (λ (x : ℕ). drop x d) (next k i) in
       let more : p ++ bytes k (getD s i 0) ≡ bytesOf k (take (i + 1) s) =
       ap (λ (y : List ℕ). p ++ y) (sym (append-nil (bytes k (getD s i 0)))) ∙ sym (bytesOf-append k (take i s) (getD s i 0 ∷ []))
-      ∙ ap (bytesOf k) (sym (take-suc s i 0 low) ∙ ap (λ (x : ℕ). take x s) (sym (add-one i))) in
+      ∙ ap (bytesOf k) (sym (take-suc s i 0 (omega arith)) ∙ ap (λ (x : ℕ). take x s) (sym (add-one i))) in
       let e : putMid (k * i) (k * i + k - k * i) l t ≡ bytesOf k (take (i + 1) s) ++ drop (k * (i + 1)) d =
       ap₂ (λ (x y : List ℕ). x ++ (t ++ y)) before (post-is (k * i) (k * i + k) l (omega arith) ∙ after)
       ∙ ap (λ (x : List ℕ). p ++ (x ++ drop (k * (i + 1)) d)) w
       ∙ sym (append-assoc p (bytes k (getD s i 0)) (drop (k * (i + 1)) d)) ∙ ap (λ (x : List ℕ). x ++ drop (k * (i + 1)) d) more in
       record { within = omega arith; long = same-len-mid (k * i) (k * i + k - k * i) l t z ∙ r .long; same = e }
 
-  pub encode-all : (i : ℕ) {l : List ℕ} → Encoded k s d i l → length s ≤ i → length d ≡ k * length s → l ≡ bytesOf k s
-  encode-all i r h n =
-      let e : i ≡ length s = omega (arith, r .within) in
-      r .same ∙ rw (e, ← n, take-length s, drop-length d) (append-nil (bytesOf k s))
+  pub encode-all : (i : ℕ) {l : List ℕ} → Encoded k n s d i l → n ≤ i → l ≡ bytesOf k (take n s) ++ drop (k * n) d
+  encode-all i r h = let e : i ≡ n = omega (arith, r .within) in r .same ∙ ap (λ (m : ℕ). bytesOf k (take m s) ++ drop (k * m) d) e

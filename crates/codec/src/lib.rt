@@ -2,7 +2,7 @@
 ghost use mathlib.Core.Path.{_≡_};
 ghost use mathlib.Core.List.{_++_};
 ghost use Prim.Native.Nat.{_*_, _^_, _≤_, _<_};
-ghost use lib.ListN.{length, drop};
+ghost use lib.ListN.{length, take, drop};
 ghost use Rattle.codec.specs.Bytes.{bytes, entry, bytesOf, firstEntries};
 
 fn wide(x: u8) -> u64
@@ -51,26 +51,26 @@ pub fn decode32(dst: &mut [u32], src: &[u8], n: usize)
     }
 }
 
-// Each entry as 4 bytes.
-pub fn encode32(dst: &mut [u8], src: &[u32])
-    requires { ⌜ length (now dst) ≡ 4 * length (now src) ⌝ }
-    ensures { λ _. ⌜ now (dst .exit) ≡ bytesOf 4 (now (src .entry)) ⌝ }
+// The first n entries as 4 bytes each, into the first bytes.
+pub fn encode32(dst: &mut [u8], src: &[u32], n: usize)
+    requires { ⌜ (n ≤ length (now src)) × (4 * n ≤ length (now dst)) ⌝ }
+    ensures { λ _. ⌜ now (dst .exit) ≡ bytesOf 4 (take n (now (src .entry))) ++ drop (4 * n) (now (dst .entry)) ⌝ }
 {
     let mut i = 0;
-    while i < src.len() {
+    while i < n {
         let at = 4 * i;
         put(&mut dst[at..at + 4], src[i] as u64);
         i += 1;
     }
 }
 
-// Each entry as 8 bytes.
-pub fn encode64(dst: &mut [u8], src: &[u64])
-    requires { ⌜ length (now dst) ≡ 8 * length (now src) ⌝ }
-    ensures { λ _. ⌜ now (dst .exit) ≡ bytesOf 8 (now (src .entry)) ⌝ }
+// The first n entries as 8 bytes each, into the first bytes.
+pub fn encode64(dst: &mut [u8], src: &[u64], n: usize)
+    requires { ⌜ (n ≤ length (now src)) × (8 * n ≤ length (now dst)) ⌝ }
+    ensures { λ _. ⌜ now (dst .exit) ≡ bytesOf 8 (take n (now (src .entry))) ++ drop (8 * n) (now (dst .entry)) ⌝ }
 {
     let mut i = 0;
-    while i < src.len() {
+    while i < n {
         let at = 8 * i;
         put(&mut dst[at..at + 8], src[i]);
         i += 1;

@@ -3,24 +3,26 @@ use mathlib.Core.Path.{_≡_, refl, sym, ap, _∙_, subst⁻¹}
 use mathlib.Core.Logic.{inl, inr}
 use mathlib.Core.Bool.{Bool, true, false, _&&_}
 use mathlib.Core.List.{List, [], _∷_}
-use Prim.Native.Nat.{ℕ, _-_, _^_, _≤_, _<_}
+use Prim.Native.Nat.{ℕ, _-_, _≤_, _<_}
 use native.Mathlib.Omega.{arith}
 use lib.Dec.{T, eqb, leb, eqb→eq, leb→le}
 use lib.ListN.{length, replicate}
 use borrow.Author.Tests.{ne-eqb, lt-ltb, le-ltb}
-use Rattle.meaning.specs.Table.{Row, table}
+use Rattle.meaning.specs.Credentials.{Credential}
+use Rattle.meaning.specs.Table.{Row, ends, spanCount, table}
 use Rattle.meaning.proofs.Tests.{and-left, and-right}
 use Rattle.file.specs.Refusals.{Outcome, done, refused, first, numberOf}
 use Rattle.file.specs.Format.{credentials}
 use Rattle.file.specs.Reading.{between, read}
-use Rattle.file.specs.Conditions.{Refused, short, limits, wrongLength, kind, range, unused, period, tooManyEnds, Accepted}
-use Rattle.file.proofs.Refusals.{Verdict, verdict, accepted-read, refused-read, accepted-exact}
-use Rattle.ends.specs.Ends.{Surveyed, endsRead}
+use Rattle.file.specs.Conditions.{Refused, short, limits, wrongLength, kind, range, unused, period, tooManyEnds}
+use Rattle.file.proofs.Refusals.{Verdict, verdict, accepted-read, refused-read}
+use Rattle.policy.specs.Policy.{credentialsOf}
+use Rattle.ends.specs.Ends.{padded, Surveyed, endsRead}
 use Rattle.ends.specs.declared.Summary.{Summary}
-use Rattle.ends.proofs.Answers.{survey-refused, survey-passed, read-done}
+use Rattle.ends.proofs.Answers.{survey-refused, survey-passed}
 use Rattle.loading.specs.Loading.{Loadable}
 use Rattle.writing.specs.Columns.{column}
-use Rattle.completing.specs.Completing.{Lent, lentRow, fullRow, replyTo, left, Ending, ending, completing, Worked}
+use Rattle.completing.specs.Completing.{Lent, lentRow, fullRow, replyTo, left, Ending, ending, completing, lastReply, endingBy, lastEnding, Worked}
 
 -- the refusals of a file are 1 to 8
 low : {f : List ℕ} {n p : ℕ} → Refused f n p → n ≤ 8
@@ -51,13 +53,9 @@ module _ (f : List ℕ) (t : Lent) where
   abbrev rows : List Row
   rows = table (credentials f)
 
-  abbrev endingBy : Outcome ℕ → Ending
-  endingBy o =
-      ending o (left o (t .roles) (column (λ x. x .role) size rows)) (left o (t .sets) (column (λ x. x .set) size rows)) (left o (t .spans) (column (λ x. x .spans) size rows))
-
-  by-reply : (o : Outcome ℕ) → replyTo f t ≡ o → endingBy o ≡ completing f t
+  by-reply : (o : Outcome ℕ) → replyTo f t ≡ o → endingBy (credentials f) t o ≡ completing f t
   unfolding completing
-  by-reply o e = sym (ap endingBy e)
+  by-reply o e = sym (ap (endingBy (credentials f) t) e)
 
   kept : (n p : ℕ) → n ≤ 9 → replyTo f t ≡ refused n p → ending (refused n p) (t .roles) (t .sets) (t .spans) ≡ completing f t
   kept n p h e =
@@ -68,62 +66,71 @@ module _ (f : List ℕ) (t : Lent) where
   abbrev fitting : Bool
   fitting = eqb (length (t .sets)) size && eqb (length (t .spans)) size && between 1 1024 size
 
-  module _ (es : List ℕ) (s : Summary) (found : Surveyed f es s) where
+  module _ (p es : List ℕ) (s : Summary) (found : Surveyed f p es s) where
     pub refused-ending : (s .number ≡ 0 → ⊥) → ending (refused (s .number) (s .place)) (t .roles) (t .sets) (t .spans) ≡ completing f t
     unfolding replyTo
     refused-ending h =
-        kept (s .number) (s .place) (omega (arith, found .number, lowest)) (survey-refused f es s found h (lentRow t ∷ fullRow f t ∷ []) (length rows))
+        kept (s .number) (s .place) (omega (arith, found .number, lowest)) (survey-refused f p es s found h (lentRow t ∷ fullRow f t ∷ []) (length rows))
       where
         lowest : numberOf (endsRead f) ≤ 8
         lowest = read-low f _
 
     module _ (none : s .number ≡ 0) where
-      pub accepted : Accepted f
-      accepted = accepted-exact _ f .0 (read-done f es s found none)
-
       passed : replyTo f t ≡ first (lentRow t ∷ fullRow f t ∷ []) (length rows)
       unfolding replyTo
-      passed = survey-passed f es s found none (lentRow t ∷ fullRow f t ∷ []) (length rows)
+      passed = survey-passed f p es s found none (lentRow t ∷ fullRow f t ∷ []) (length rows)
 
       pub nine-ending : fitting ≡ false → ending (refused 9 0) (t .roles) (t .sets) (t .spans) ≡ completing f t
       nine-ending e = kept 9 0 (omega arith) (passed ∙ rw e refl)
+
+      abbrev cs : List Credential
+      cs = credentialsOf p (s .credentials)
+
+      same : cs ≡ credentials f
+      same = found .policy none .means
 
       module _ (fits : fitting ≡ true) where
         pub lengths : (length (t .sets) ≡ size) × (length (t .spans) ≡ size) × (size ≤ 1024)
         lengths =
             let w = subst⁻¹ T fits tt in
-            let same = and-left (eqb (length (t .sets)) size && eqb (length (t .spans)) size) (between 1 1024 size) w in
+            let alike = and-left (eqb (length (t .sets)) size && eqb (length (t .spans)) size) (between 1 1024 size) w in
             let few = and-right (eqb (length (t .sets)) size && eqb (length (t .spans)) size) (between 1 1024 size) w in (
-              eqb→eq (length (t .sets)) size (and-left (eqb (length (t .sets)) size) (eqb (length (t .spans)) size) same),
-              eqb→eq (length (t .spans)) size (and-right (eqb (length (t .sets)) size) (eqb (length (t .spans)) size) same),
+              eqb→eq (length (t .sets)) size (and-left (eqb (length (t .sets)) size) (eqb (length (t .spans)) size) alike),
+              eqb→eq (length (t .spans)) size (and-right (eqb (length (t .sets)) size) (eqb (length (t .spans)) size) alike),
               leb→le size 1024 (and-right (leb 1 size) (leb size 1024) few),
             )
 
-        pub loadable : {count : ℕ} → count ≡ s .count - 1 → Loadable f es count size
-        loadable e = record { accepted = accepted; held = found .ends none; counted = e ∙ ap (λ (n : ℕ). n - 1) (found .count none); small = lengths .2 }
+        pub loadable : {count : ℕ} → count ≡ s .count - 1 → Loadable p (s .credentials) es count size
+        loadable {count} e =
+            record {
+              decoded = found .policy none .decoded;
+              few = subst⁻¹ (λ (x : List Credential). length (ends x) ≤ 64) same (found .few none);
+              held = subst⁻¹ (λ (x : List Credential). es ≡ padded 64 (ends x)) same (found .ends none);
+              counted = subst⁻¹ (λ (x : List Credential). count ≡ spanCount (ends x)) same (e ∙ ap (λ (n : ℕ). n - 1) (found .count none));
+              small = lengths .2;
+            }
 
-        ten-ending : size < length rows
-            → ending (refused 10 0) (replicate size 0) (replicate (length (t .sets)) 0) (replicate (length (t .spans)) 0) ≡ completing f t
-        ten-ending h = by-reply (refused 10 0) (passed ∙ rw (fits, lt-ltb size (length rows) h) refl)
+        pub last-ending : {x : Ending} → x ≡ lastEnding cs t → x ≡ completing f t
+        last-ending e = e ∙ ap (λ (y : List Credential). lastEnding y t) same ∙ by-reply (lastReply (credentials f) t) (passed ∙ rw fits refl)
 
-        done-ending : length rows ≤ size
-            → ending (done (length rows)) (column (λ x. x .role) size rows) (column (λ x. x .set) size rows) (column (λ x. x .spans) size rows) ≡ completing f t
-        done-ending h = by-reply (done (length rows)) (passed ∙ rw (fits, le-ltb size (length rows) h) refl)
+-- ---- lists of one length
 
-        module _ {roles sets spans : List ℕ} {r : ℕ} (w : Worked f size roles sets spans r) (same : length roles ≡ size) where
-          -- the lists were cleared after too many memberships
-          pub over-ending : length roles < r → length sets ≡ length (t .sets) → length spans ≡ length (t .spans) → {roles′ sets′ spans′ : List ℕ} → roles′ ≡ replicate (length roles) 0
-              → sets′ ≡ replicate (length sets) 0 → spans′ ≡ replicate (length spans) 0 → ending (refused 10 0) roles′ sets′ spans′ ≡ completing f t
-          over-ending h k l a b c =
-              (λ i. ending (refused 10 0) ((a ∙ ap (λ (n : ℕ). replicate n 0) same) i) ((b ∙ ap (λ (n : ℕ). replicate n 0) k) i) ((c ∙ ap (λ (n : ℕ). replicate n 0) l) i))
-              ∙ ten-ending (w .over (omega (arith, same)))
+module _ (cs : List Credential) (t : Lent) {roles sets spans : List ℕ} {r : ℕ} (w : Worked cs (length (t .roles)) roles sets spans r) (same : length roles ≡ length (t .roles)) where
+  -- the lists were cleared after too many memberships
+  pub over-ending : length roles < r → length sets ≡ length (t .sets) → length spans ≡ length (t .spans) → {roles′ sets′ spans′ : List ℕ} → roles′ ≡ replicate (length roles) 0
+      → sets′ ≡ replicate (length sets) 0 → spans′ ≡ replicate (length spans) 0 → ending (refused 10 0) roles′ sets′ spans′ ≡ lastEnding cs t
+  over-ending h k l a b c =
+      (λ i. ending (refused 10 0) ((a ∙ ap (λ (n : ℕ). replicate n 0) same) i) ((b ∙ ap (λ (n : ℕ). replicate n 0) k) i) ((c ∙ ap (λ (n : ℕ). replicate n 0) l) i))
+      ∙ ap (endingBy cs t) (sym reply)
+    where
+      reply : lastReply cs t ≡ refused 10 0
+      reply = rw (lt-ltb (length (t .roles)) (length (table cs)) (w .over (omega (arith, same)))) refl
 
-          -- the lists hold the table
-          pub table-ending : r ≤ length roles → ending (done r) roles sets spans ≡ completing f t
-          table-ending h =
-              let l : r ≤ size = omega (arith, same) in
-              (λ i. ending (done (w .count l i)) (w .byRole l i) (w .bySet l i) (w .bySpans l i)) ∙ done-ending (omega (arith, w .count l))
-
-          -- the count is a 32-bit number
-          pub count-few : r ≤ length roles → r < 2 ^ 32
-          count-few h = omega (arith, same, lengths .2)
+  -- the lists hold the table
+  pub table-ending : r ≤ length roles → ending (done r) roles sets spans ≡ lastEnding cs t
+  table-ending h =
+      let l : r ≤ length (t .roles) = omega (arith, same) in
+      (λ i. ending (done (w .count l i)) (w .byRole l i) (w .bySet l i) (w .bySpans l i)) ∙ ap (endingBy cs t) (sym (reply l))
+    where
+      reply : r ≤ length (t .roles) → lastReply cs t ≡ done (length (table cs))
+      reply l = rw (le-ltb (length (t .roles)) (length (table cs)) (omega (arith, w .count l))) refl

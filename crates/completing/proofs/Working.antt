@@ -5,10 +5,8 @@ use mathlib.Core.List.{List, List·Memᴰ as Mem}
 use Prim.Native.Nat.{ℕ, zero, suc, _≤_, _<_, zero-le}
 use native.Mathlib.Omega.{arith}
 use lib.ListN.{length, getD, replicate, length-replicate}
+use Rattle.meaning.specs.Credentials.{Credential, FitsAll}
 use Rattle.meaning.specs.Table.{Row, table}
-use Rattle.file.specs.Format.{credentials}
-use Rattle.file.specs.Conditions.{Accepted}
-use Rattle.file.proofs.Accepted.{accepted-fits}
 use Rattle.store.proofs.Stores.{distinct-keys}
 use Rattle.firing.specs.Firing.{Held}
 use Rattle.closing.specs.Closing.{Closed, Finished, TooMany, Closes}
@@ -39,8 +37,8 @@ blank k f s l c v t = record {
 }
 
 -- more entries than the limit were loaded
-pub filled-over : {f keys found slots links done codes valid lists : List ℕ} {limit b h n : ℕ} → Loaded f limit keys found slots links done codes valid lists b h n → limit < n
-    → Filled f limit keys found slots links done n
+pub filled-over : {cs : List Credential} {keys found slots links done codes valid lists : List ℕ} {limit b h n : ℕ} → Loaded cs limit keys found slots links done codes valid lists b h n → limit < n
+    → Filled cs limit keys found slots links done n
 filled-over d h = record {
   held = λ l. absurd (omega arith);
   closed = λ l. absurd (omega arith);
@@ -49,29 +47,29 @@ filled-over d h = record {
 }
 
 -- what was loaded is closed
-pub filled : {f keys found slots links done codes valid lists keys′ found′ slots′ links′ done′ : List ℕ} {limit b h n r : ℕ}
-    → Loaded f limit keys found slots links done codes valid lists b h n → n ≤ limit
+pub filled : {cs : List Credential} {keys found slots links done codes valid lists keys′ found′ slots′ links′ done′ : List ℕ} {limit b h n r : ℕ}
+    → Loaded cs limit keys found slots links done codes valid lists b h n → n ≤ limit
     → Closes limit codes valid lists b h keys found done n keys′ found′ slots′ links′ done′ r → (r ≤ limit → Finished found′ done′ r)
-    → Filled f limit keys′ found′ slots′ links′ done′ r
-filled {f} d h c e = record {
+    → Filled cs limit keys′ found′ slots′ links′ done′ r
+filled {cs} d h c e = record {
   held = c .held;
-  closed = λ l. c .closed l (bySpan f) (d .policy h) (d .closed h);
+  closed = λ l. c .closed l (bySpan cs) (d .policy h) (d .closed h);
   finished = e;
-  over = λ l. c .over l (bySpan f) (d .policy h) (d .closed h);
+  over = λ l. c .over l (bySpan cs) (d .policy h) (d .closed h);
 }
 
-module _ (f : List ℕ) (accepted : Accepted f) (size : ℕ) where
-  pub worked-over : {roles sets spans : List ℕ} {r : ℕ} → size < r → TooMany (bySpan f) size → Worked f size roles sets spans r
+module _ {cs : List Credential} (fits : FitsAll cs) (size : ℕ) where
+  pub worked-over : {roles sets spans : List ℕ} {r : ℕ} → size < r → TooMany (bySpan cs) size → Worked cs size roles sets spans r
   worked-over h t = record {
     count = λ l. absurd (omega arith);
     byRole = λ l. absurd (omega arith);
     bySet = λ l. absurd (omega arith);
     bySpans = λ l. absurd (omega arith);
-    over = λ l. too-many (credentials f) (accepted-fits f accepted) size t;
+    over = λ l. too-many cs fits size t;
   }
 
-  pub worked : {keys found slots links done roles sets spans : List ℕ} {r : ℕ} → r ≤ size → Held keys found slots links done r → Closed (bySpan f) keys found done r
-      → Finished found done r → Written keys found r size roles sets spans → Worked f size roles sets spans r
+  pub worked : {keys found slots links done roles sets spans : List ℕ} {r : ℕ} → r ≤ size → Held keys found slots links done r → Closed (bySpan cs) keys found done r
+      → Finished found done r → Written keys found r size roles sets spans → Worked cs size roles sets spans r
   worked {keys} {found} {slots} {links} {done} {roles} {sets} {spans} {r} l h c e w = record {
     count = λ _. sym (w .count) ∙ ap length same;
     byRole = λ _. w .byRole ∙ ap (column (λ x. x .role) size) same;
@@ -90,7 +88,7 @@ module _ (f : List ℕ) (accepted : Accepted f) (size : ℕ) where
             λ e. subst (λ (y : Row). Mem y (rowsOf keys found r)) (sym (e .2)) (g .listed (e .0) (e .1) zero-le),
           )
 
-      same : rowsOf keys found r ≡ table (credentials f)
+      same : rowsOf keys found r ≡ table cs
       same =
-          is-table (credentials f) (accepted-fits f accepted) keys found slots links done r (h .stored) (h .some) c e (rowsOf keys found r)
+          is-table cs fits keys found slots links done r (h .stored) (h .some) c e (rowsOf keys found r)
           (rows-gathered keys found r distinct .ascending) exact

@@ -6,6 +6,7 @@ use Prim.Native.Nat.{ℕ, _≤_, _<_}
 use lib.Dec.{eqb, ltb}
 use lib.ListN.{length, replicate}
 use Rattle.meaning.specs.Lists.{if}
+use Rattle.meaning.specs.Credentials.{Credential}
 use Rattle.meaning.specs.Table.{Row, table}
 use Rattle.file.specs.Refusals as R
 use Rattle.file.specs.Refusals.{Outcome, done, refused, first, _when_}
@@ -69,17 +70,29 @@ abbrev pub says : Completed → Outcome ℕ
 says (C.Memberships n) = done n
 says (C.Refused n p) = refused n p
 
--- What working leaves in lists of one length: the columns of the table and its count, or an answer above the length, where the table is longer.
-pub record Worked (f : List ℕ) (size : ℕ) (roles sets spans : List ℕ) (r : ℕ) : Type 0 where
-  pub count : r ≤ size → r ≡ length (table (credentials f))
-  pub byRole : r ≤ size → roles ≡ column (λ x. x .role) size (table (credentials f))
-  pub bySet : r ≤ size → sets ≡ column (λ x. x .set) size (table (credentials f))
-  pub bySpans : r ≤ size → spans ≡ column (λ x. x .spans) size (table (credentials f))
-  pub over : size < r → size < length (table (credentials f))
+-- The ending after 1 to 9, by the table of some credentials: refusal 10, or the count of its rows.
+abbrev pub lastReply : List Credential → Lent → Outcome ℕ
+lastReply cs t = first (10 when (ltb (length (t .roles)) (length (table cs))) ∷ []) (length (table cs))
 
--- What loading and closing leave in the store, for a file whose table is completed: closed entries with nothing left to do, or too many.
-pub record Filled (f : List ℕ) (limit : ℕ) (keys found slots links done : List ℕ) (r : ℕ) : Type 0 where
+abbrev pub endingBy : List Credential → Lent → Outcome ℕ → Ending
+endingBy cs t o =
+    ending o (left o (t .roles) (column (λ x. x .role) (length (t .roles)) (table cs)))
+    (left o (t .sets) (column (λ x. x .set) (length (t .roles)) (table cs))) (left o (t .spans) (column (λ x. x .spans) (length (t .roles)) (table cs)))
+
+abbrev pub lastEnding : List Credential → Lent → Ending
+lastEnding cs t = endingBy cs t (lastReply cs t)
+
+-- What working leaves in lists of one length: the columns of the table and its count, or an answer above the length, where the table is longer.
+pub record Worked (cs : List Credential) (size : ℕ) (roles sets spans : List ℕ) (r : ℕ) : Type 0 where
+  pub count : r ≤ size → r ≡ length (table cs)
+  pub byRole : r ≤ size → roles ≡ column (λ x. x .role) size (table cs)
+  pub bySet : r ≤ size → sets ≡ column (λ x. x .set) size (table cs)
+  pub bySpans : r ≤ size → spans ≡ column (λ x. x .spans) size (table cs)
+  pub over : size < r → size < length (table cs)
+
+-- What loading and closing leave in the store: closed entries with nothing left to do, or too many.
+pub record Filled (cs : List Credential) (limit : ℕ) (keys found slots links done : List ℕ) (r : ℕ) : Type 0 where
   pub held : r ≤ limit → Held keys found slots links done r
-  pub closed : r ≤ limit → Closed (bySpan f) keys found done r
+  pub closed : r ≤ limit → Closed (bySpan cs) keys found done r
   pub finished : r ≤ limit → Finished found done r
-  pub over : limit < r → TooMany (bySpan f) limit
+  pub over : limit < r → TooMany (bySpan cs) limit

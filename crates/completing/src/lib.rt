@@ -1,8 +1,9 @@
 // Completing the table: every membership of a credentials file with all spans in which the rules give it, in three lent lists.
 ghost use mathlib.Core.Path.{_≡_};
 ghost use lib.ListN.{length, replicate};
+ghost use Rattle.policy.specs.Policy.{credentialsOf};
 ghost use Rattle.loading.specs.Loading.{Loadable, Blank};
-ghost use Rattle.completing.specs.Completing.{lent, oneLength, ending, completing, says, Worked, Filled};
+ghost use Rattle.completing.specs.Completing.{lent, oneLength, ending, completing, says, lastEnding, Worked, Filled};
 
 // The count of memberships valid at one minute or more, or a refusal.
 pub enum Completed {
@@ -46,26 +47,28 @@ fn room_for_valid() -> [u64; 512]
     [0; 512]
 }
 
-// Loads the file and closes what was loaded; an answer above the limit says that there are too many memberships.
+// Loads the policy and closes what was loaded; an answer above the limit says that there are too many memberships.
 fn fill(
-    keys: &mut [u64],
-    found: &mut [u64],
-    slots: &mut [u16],
-    links: &mut [u16],
+    keys: &mut [u64; 1024],
+    found: &mut [u64; 1024],
+    slots: &mut [u16; 3072],
+    links: &mut [u16; 2048],
     done: &mut [u64],
-    codes: &mut [u32],
-    valid: &mut [u64],
-    lists: &mut [u16],
-    file: &[u8],
-    ends: &[u32],
+    codes: &mut [u32; 1024],
+    valid: &mut [u64; 512],
+    lists: &mut [u16; 2592],
+    policy: &[u64; 512],
+    credentials: usize,
+    ends: &[u32; 64],
     count: usize,
     limit: usize,
 ) -> usize
-    requires { ⌜ Loadable (now file) (now ends) count limit ⌝ ∗ ⌜ Blank (now keys) (now found) (now slots) (now links) (now codes) (now valid) (now lists) ⌝ ∗ ⌜ now done ≡ replicate limit 0 ⌝ }
-    ensures { λ r. ⌜ Filled (now (file .entry)) limit (now (keys .exit)) (now (found .exit)) (now (slots .exit)) (now (links .exit)) (now (done .exit)) r ⌝ }
+    requires { ⌜ Loadable (now policy) credentials (now ends) count limit ⌝ ∗ ⌜ Blank (now keys) (now found) (now slots) (now links) (now codes) (now valid) (now lists) ⌝ ∗ ⌜ now done ≡ replicate limit 0 ⌝ }
+    ensures { λ r. ⌜ Filled (credentialsOf (now (policy .entry)) credentials) limit (now (keys .exit)) (now (found .exit)) (now (slots .exit)) (now (links .exit)) (now (done .exit)) r ⌝ }
 {
     let a = loading::load(
-        file,
+        policy,
+        credentials,
         ends,
         count,
         keys,
@@ -101,19 +104,20 @@ fn work(
     roles: &mut [u32],
     sets: &mut [u32],
     spans: &mut [u64],
-    keys: &mut [u64],
-    found: &mut [u64],
-    slots: &mut [u16],
-    links: &mut [u16],
-    codes: &mut [u32],
-    valid: &mut [u64],
-    lists: &mut [u16],
-    file: &[u8],
-    ends: &[u32],
+    keys: &mut [u64; 1024],
+    found: &mut [u64; 1024],
+    slots: &mut [u16; 3072],
+    links: &mut [u16; 2048],
+    codes: &mut [u32; 1024],
+    valid: &mut [u64; 512],
+    lists: &mut [u16; 2592],
+    policy: &[u64; 512],
+    credentials: usize,
+    ends: &[u32; 64],
     count: usize,
 ) -> usize
-    requires { ⌜ Loadable (now file) (now ends) count (length (now roles)) ⌝ ∗ ⌜ Blank (now keys) (now found) (now slots) (now links) (now codes) (now valid) (now lists) ⌝ ∗ ⌜ (length (now sets) ≡ length (now roles)) × (length (now spans) ≡ length (now roles)) ⌝ }
-    ensures { λ r. ⌜ Worked (now (file .entry)) (length (now (roles .entry))) (now (roles .exit)) (now (sets .exit)) (now (spans .exit)) r ⌝ }
+    requires { ⌜ Loadable (now policy) credentials (now ends) count (length (now roles)) ⌝ ∗ ⌜ Blank (now keys) (now found) (now slots) (now links) (now codes) (now valid) (now lists) ⌝ ∗ ⌜ (length (now sets) ≡ length (now roles)) × (length (now spans) ≡ length (now roles)) ⌝ }
+    ensures { λ r. ⌜ Worked (credentialsOf (now (policy .entry)) credentials) (length (now (roles .entry))) (now (roles .exit)) (now (sets .exit)) (now (spans .exit)) r ⌝ }
 {
     let limit = roles.len();
     writing::clear64(spans);
@@ -126,7 +130,8 @@ fn work(
         codes,
         valid,
         lists,
-        file,
+        policy,
+        credentials,
         ends,
         count,
         limit,
@@ -143,12 +148,13 @@ fn run(
     roles: &mut [u32],
     sets: &mut [u32],
     spans: &mut [u64],
-    file: &[u8],
-    ends: &[u32],
+    policy: &[u64; 512],
+    credentials: usize,
+    ends: &[u32; 64],
     count: usize,
 ) -> usize
-    requires { ⌜ Loadable (now file) (now ends) count (length (now roles)) ⌝ ∗ ⌜ (length (now sets) ≡ length (now roles)) × (length (now spans) ≡ length (now roles)) ⌝ }
-    ensures { λ r. ⌜ Worked (now (file .entry)) (length (now (roles .entry))) (now (roles .exit)) (now (sets .exit)) (now (spans .exit)) r ⌝ }
+    requires { ⌜ Loadable (now policy) credentials (now ends) count (length (now roles)) ⌝ ∗ ⌜ (length (now sets) ≡ length (now roles)) × (length (now spans) ≡ length (now roles)) ⌝ }
+    ensures { λ r. ⌜ Worked (credentialsOf (now (policy .entry)) credentials) (length (now (roles .entry))) (now (roles .exit)) (now (sets .exit)) (now (spans .exit)) r ⌝ }
 {
     let mut keys = room_for_keys();
     let mut found = room_for_keys();
@@ -168,7 +174,8 @@ fn run(
         &mut codes,
         &mut valid,
         &mut lists,
-        file,
+        policy,
+        credentials,
         ends,
         count,
     )
@@ -181,12 +188,47 @@ fn of_one_length(roles: &[u32], sets: &[u32], spans: &[u64]) -> bool
     (sets.len() == n) & (spans.len() == n) & ((1 <= n) & (n <= 1024))
 }
 
+// Sets the three lists to zeros.
+fn clear(roles: &mut [u32], sets: &mut [u32], spans: &mut [u64])
+    ensures { λ _. ⌜ now (roles .exit) ≡ replicate (length (now (roles .entry))) 0 ⌝ ∗ ⌜ now (sets .exit) ≡ replicate (length (now (sets .entry))) 0 ⌝ ∗ ⌜ now (spans .exit) ≡ replicate (length (now (spans .entry))) 0 ⌝ }
+{
+    writing::clear32(roles);
+    writing::clear32(sets);
+    writing::clear64(spans);
+}
+
+// Completes the table in lists of one length.
+fn finish(
+    roles: &mut [u32],
+    sets: &mut [u32],
+    spans: &mut [u64],
+    policy: &[u64; 512],
+    credentials: usize,
+    ends: &[u32; 64],
+    count: usize,
+) -> Completed
+    requires { ⌜ Loadable (now policy) credentials (now ends) count (length (now roles)) ⌝ ∗ ⌜ (length (now sets) ≡ length (now roles)) × (length (now spans) ≡ length (now roles)) ⌝ }
+    ensures { λ r. ⌜ ending (says r) (now (roles .exit)) (now (sets .exit)) (now (spans .exit)) ≡ lastEnding (credentialsOf (now (policy .entry)) credentials) (lent (now (roles .entry)) (now (sets .entry)) (now (spans .entry))) ⌝ }
+{
+    let r = run(roles, sets, spans, policy, credentials, ends, count);
+    let size = roles.len();
+    if size < r {
+        clear(roles, sets, spans);
+        return Completed::Refused {
+            number: 10,
+            place: 0,
+        };
+    }
+    Completed::Memberships(r as u32)
+}
+
 // Completes the table (document 01): the reply, and the three lists as the call leaves them.
 pub fn complete(file: &[u8], roles: &mut [u32], sets: &mut [u32], spans: &mut [u64]) -> Completed
     ensures { λ r. ⌜ ending (says r) (now (roles .exit)) (now (sets .exit)) (now (spans .exit)) ≡ completing (now (file .entry)) (lent (now (roles .entry)) (now (sets .entry)) (now (spans .entry))) ⌝ }
 {
-    let mut ends = [0u32; 64];
-    let s = ends::survey(file, &mut ends);
+    let mut policy = policy::room();
+    let mut ends = ends::no_ends();
+    let s = ends::survey(&mut policy, &mut ends, file);
     if s.number != 0 {
         return Completed::Refused {
             number: s.number,
@@ -200,16 +242,5 @@ pub fn complete(file: &[u8], roles: &mut [u32], sets: &mut [u32], spans: &mut [u
         };
     }
     let count = ends::span_count(s.count);
-    let r = run(roles, sets, spans, file, &ends, count);
-    let size = roles.len();
-    if size < r {
-        writing::clear32(roles);
-        writing::clear32(sets);
-        writing::clear64(spans);
-        return Completed::Refused {
-            number: 10,
-            place: 0,
-        };
-    }
-    Completed::Memberships(r as u32)
+    finish(roles, sets, spans, &policy, s.credentials, &ends, count)
 }

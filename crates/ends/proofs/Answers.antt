@@ -41,7 +41,7 @@ same-intervals es fs e spans (suc n) =
 
 -- ---- what `survey` leaves
 
-module _ (f : List ℕ) (es : List ℕ) (s : Summary) (found : Surveyed f es s) where
+module _ (f p es : List ℕ) (s : Summary) (found : Surveyed f p es s) where
   abbrev all : List ℕ
   all = ends (credentials f)
 

@@ -12,7 +12,7 @@ use Rattle.meaning.proofs.ListLaws.{map-out, below-out}
 use Rattle.meaning.proofs.Levels.{entity-power}
 use Rattle.file.specs.Format.{statedBy, N, field, credentialIn, bodyOf, bodyIn, meaningOf, credentials}
 use Rattle.file.specs.Reading.{uses}
-use Rattle.file.specs.Values.{Read, valueOf, found, foundOf, foundIn, meantBy}
+use Rattle.file.specs.Values.{Read, valueOf, found, foundOf, foundIn}
 use Rattle.file.specs.Conditions.{Head, Good, Accepted}
 use Rattle.file.specs.declared.Body.{Body}
 use Rattle.file.specs.Refusals.{Outcome, numberOf}

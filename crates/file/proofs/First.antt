@@ -95,9 +95,6 @@ holds-first (x ∷ xs) a t = go (x .holds) t (holds-first xs a)
 pub clear-holds : (rows : List Row) → T (numbered rows) → firstNumber rows ≡ 0 → T (noneHolds rows)
 clear-holds rows t e = first-holds {A = ℕ} rows 0 0 (first-clear rows 0 t e)
 
-pub holds-clear : (rows : List Row) → T (noneHolds rows) → firstNumber rows ≡ 0
-holds-clear rows t = ap (λ (o : Outcome ℕ). refusalOf o .number) (holds-first rows 0 t)
-
 -- the first rows decide, unless they are clear
 pub refusal-stopped : (xs ys : List Row) → (firstNumber xs ≡ 0 → ⊥) → firstRefusal (xs ++ ys) ≡ firstRefusal xs
 refusal-stopped xs ys h = ap refusalOf (first-append {A = ℕ} {B = ℕ} xs ys 0 0) ∙ go (first xs 0) h
@@ -110,10 +107,6 @@ pub refusal-passed : (xs ys : List Row) → T (numbered xs) → firstNumber xs �
 refusal-passed xs ys t e =
     ap refusalOf (first-append {A = ℕ} {B = ℕ} xs ys 0 0)
     ∙ ap (λ (o : Outcome ℕ). refusalOf (after {A = ℕ} {B = ℕ} o (first ys 0))) (first-clear xs 0 t e)
-
-pub refusal-append : (xs ys : List Row) → T (numbered xs) → firstRefusal (xs ++ ys) ≡ if (clear xs) (firstRefusal ys) (firstRefusal xs)
-refusal-append xs ys t =
-    dite (ℕ-discrete (firstNumber xs) 0) (λ e. refusal-passed xs ys t e ∙ simp (eq-eqb _ _ e)) (λ h. refusal-stopped xs ys h ∙ simp (ne-eqb _ _ h))
 
 -- the answer from the refusal alone
 pub first-refusal : {A : Type 0} (rows : List Row) (a : A) → T (numbered rows) → first rows a ≡ outcomeOf (firstRefusal rows) a

@@ -10,7 +10,6 @@ use Rattle.meaning.specs.Lists.{all}
 use Rattle.file.specs.Format.{roleOf, joinedOf, bodyOf, byte, E, R, statementAt, field}
 use Rattle.file.specs.Reading.{uses, inRange, zeros}
 use Rattle.file.specs.Values.{usedBy}
-use Rattle.file.specs.declared.Used.{Used}
 use Rattle.meaning.proofs.Tests.{and-left, and-right}
 
 -- what holds of each of the six kinds

@@ -1,14 +1,13 @@
 // The credentials file: its numbers, its credentials as values, and refusals 1 to 7.
 ghost use mathlib.Core.Path.{_≡_};
-ghost use mathlib.Core.List.{_++_};
 ghost use Prim.Native.Nat.{_+_, _*_, _<_, _≤_};
 ghost use lib.ListN.{length};
 ghost use mathlib.Core.Bool.{_&&_};
 ghost use lib.Dec.{ltb};
 ghost use mathlib.Core.Option.{some};
 ghost use Rattle.file.specs.Format.{byte, two, four, E, R, N, roleOf, joinedOf, bodyOf, bodyIn};
-ghost use Rattle.file.specs.Reading.{between, headRows, inRange, zeros, credentialRows, credentialsRows};
-ghost use Rattle.file.specs.Values.{usedBy, headIn, noSizes, firstRefusal, firstNumber, Headed, Stated, found, foundOf, foundIn, periodIn};
+ghost use Rattle.file.specs.Reading.{between, inRange, zeros, credentialRows};
+ghost use Rattle.file.specs.Values.{usedBy, headIn, noSizes, firstNumber, Headed, Stated, found, foundOf, foundIn, periodIn};
 
 // An entity's number; never a role name's.
 pub struct Entity(pub u8);
@@ -208,7 +207,7 @@ fn zeroed(file: &[u8], i: usize) -> bool
 }
 
 // The number of the first of refusals 4 to 7 that credential i has, or 0.
-fn fault(file: &[u8], h: Head, i: usize) -> u32
+pub fn fault(file: &[u8], h: Head, i: usize) -> u32
     requires { ⌜ (Headed (now file) h) × (i < N (now file)) ⌝ }
     ensures { λ r. ⌜ r ≡ firstNumber (credentialRows (now (file .entry)) i) ⌝ }
 {
@@ -228,43 +227,6 @@ fn fault(file: &[u8], h: Head, i: usize) -> u32
         return 7;
     }
     0
-}
-
-// Refusals 4 to 7 of all credentials, in file order.
-fn judge_credentials(file: &[u8], h: Head) -> Refusal
-    requires { ⌜ Headed (now file) h ⌝ }
-    ensures { λ r. ⌜ r ≡ firstRefusal (credentialsRows (now (file .entry))) ⌝ }
-{
-    let n = h.credentials;
-    let mut i = 0;
-    while i < n {
-        let number = fault(file, h, i);
-        if number != 0 {
-            return Refusal {
-                number,
-                place: i as u32,
-            };
-        }
-        i += 1;
-    }
-    Refusal {
-        number: 0,
-        place: 0,
-    }
-}
-
-// Refusals 1 to 7.
-pub fn judge(file: &[u8]) -> Refusal
-    ensures { λ r. ⌜ r ≡ firstRefusal (headRows (now (file .entry)) ++ credentialsRows (now (file .entry))) ⌝ }
-{
-    let h = read_head(file);
-    if h.number != 0 {
-        return Refusal {
-            number: h.number,
-            place: 0,
-        };
-    }
-    judge_credentials(file, h)
 }
 
 fn role_of(issuer: u8, name: u8) -> Role

@@ -22,13 +22,16 @@ use Rattle.querying.specs.Querying.{Counts, levelFor}
 use Rattle.checking.proofs.Parts.{Agree, AgreeBelow}
 use Rattle.checking.proofs.Claims.{part-before-count}
 use Rattle.codec.specs.Bytes.{entries}
-use Rattle.codec.proofs.Entries.{getD-first}
+use Rattle.codec.proofs.Entries.{length-entries, getD-first}
 use Rattle.joint.specs.Joint.{InRange, SomeProof, AfterQuery, JointClaim}
 use Rattle.joint.proofs.Completed as Joint
 use Rattle.joint.proofs.Claims.{demand-3}
-use Rattle.rtt.specs.Interface.{word, notWhole, lentIn, completeBytes, wholeSteps, stepListsIn, checkReply, entryCount, stepsAndLevel, queryReply, QueriedBytes}
-use Rattle.rtt.specs.Lengths.{TableSizes, StepSizes, Rooms}
-use Rattle.rtt.proofs.Fitting.{length-entries}
+use Rattle.replies.specs.Interface.{word, notWhole, entryCount, wholeSteps, stepListsIn}
+use Rattle.replies.specs.Lengths.{StepSizes, Rooms}
+use Rattle.complete_bytes.specs.Interface.{lentIn, completeBytes}
+use Rattle.complete_bytes.specs.Lengths.{TableSizes}
+use Rattle.query_bytes.specs.Interface.{stepsAndLevel, queryReply, QueriedBytes}
+use Rattle.check_bytes.specs.Interface.{checkReply}
 use Rattle.interface.specs.Claims.{GivenBytes, AfterQueryBytes, Same, Demand3Bytes, BytesBeforeCount}
 use Rattle.interface.proofs.Reading.{entry-same}
 use Rattle.interface.proofs.Completed as Completed

@@ -2,7 +2,7 @@
 use mathlib.Core.Path.{_≡_, refl, sym, ap, _∙_, subst, subst⁻¹}
 use mathlib.Core.Bool.{Bool, true, false, _&&_, not}
 use mathlib.Core.List.{List, [], _∷_, _++_, List·Memᴰ as Mem}
-use Prim.Native.Nat.{ℕ, _*_, _/_, _^_, _-_, _<_}
+use Prim.Native.Nat.{ℕ, _*_, _/_, _%_, _^_, _-_, _<_}
 use native.Mathlib.Omega.{arith}
 use lib.Dec.{T, eqb}
 use lib.ListN.{length}
@@ -21,9 +21,11 @@ use Rattle.asking.proofs.Asked.{all-left, all-right}
 use Rattle.writing.specs.Columns.{column}
 use Rattle.completing.specs.Completing.{Lent, lentRow, fullRow, replyTo, left, ending, completing}
 use Rattle.codec.specs.Bytes.{bytesOf, entries}
-use Rattle.rtt.specs.Interface.{word, notWhole, wholeLent, lentIn, completeReply, entryCount, completeBytes}
-use Rattle.rtt.specs.Lengths.{tableFits, TableSizes}
-use Rattle.rtt.proofs.Fitting.{length-entries, table-whole, table-sizes, table-unfit}
+use Rattle.codec.proofs.Entries.{length-entries}
+use Rattle.replies.specs.Interface.{word, notWhole, entryCount}
+use Rattle.complete_bytes.specs.Interface.{lentIn, completeReply, completeBytes}
+use Rattle.complete_bytes.specs.Lengths.{TableSizes}
+use Rattle.complete_bytes.proofs.Fitting.{fit, table-whole, table-sizes, table-unfit}
 use Rattle.interface.proofs.Reading.{entries-bytesOf, word-done}
 use Rattle.interface.proofs.Widths.{column-low, row-low, spans-low}
 
@@ -46,10 +48,10 @@ module _ (f : List ℕ) (before after : Lent) (count : ℕ) (replied : count ≡
   low = subst (λ (n : ℕ). n < 4294967296) replied small
 
   -- the bytes are whole entries, of one length
-  fits : tableFits before ≡ true
-  fits = go (tableFits before) refl
+  fits : fit before ≡ true
+  fits = go (fit before) refl
     where
-      go : (b : Bool) → tableFits before ≡ b → tableFits before ≡ true
+      go : (b : Bool) → fit before ≡ b → fit before ≡ true
       go true e = e
       go false e = absurd (nine-refused f (subst (λ (o : Outcome ℕ). word (λ n. n) o < 4294967296) (table-unfit before f e) low))
 
@@ -58,12 +60,13 @@ module _ (f : List ℕ) (before after : Lent) (count : ℕ) (replied : count ≡
 
   pub in-limits : between 1 1024 size ≡ true
   in-limits =
-      let n = length (entries 4 (before .roles)) in
-      let x = eqb (length (entries 4 (before .sets))) n in
-      let y = eqb (length (entries 8 (before .spans))) n in
-      let z = between 1 1024 n in
-      is-true (between 1 1024 size)
-      (subst (λ (m : ℕ). T (between 1 1024 m)) (length-entries 4 (before .roles)) (and-right (x && y) z (and-right (wholeLent before) (x && y && z) (subst⁻¹ T fits tt))))
+      let r = eqb (length (before .roles) % 4) 0 in
+      let s = eqb (length (before .sets) % 4) 0 in
+      let p = eqb (length (before .spans) % 8) 0 in
+      let x = eqb (length (before .sets) / 4) size in
+      let y = eqb (length (before .spans) / 8) size in
+      let z = between 1 1024 size in
+      is-true z (and-right (x && y) z (and-right (r && s && p) (x && y && z) (subst⁻¹ T fits tt)))
 
   by-entries : completeReply f before ≡ replyTo f (lentIn before)
   unfolding completeReply

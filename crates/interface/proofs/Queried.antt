@@ -22,10 +22,12 @@ use Rattle.querying.specs.Querying as Q
 use Rattle.querying.specs.Querying.{Counts, counts, replyWith, querying, Queried}
 use Rattle.checking.specs.Checking.{checking}
 use Rattle.codec.specs.Bytes.{bytesOf, entries}
-use Rattle.codec.proofs.Entries.{length-bytesOf}
-use Rattle.rtt.specs.Interface.{word, notWhole, stepListsIn, checkReply, entryCount, stepsAndLevel, queryReply, queryBytes, QueriedBytes}
-use Rattle.rtt.specs.Lengths.{StepSizes}
-use Rattle.rtt.proofs.Fitting.{length-entries, steps-whole}
+use Rattle.codec.proofs.Entries.{length-bytesOf, length-entries}
+use Rattle.replies.specs.Interface.{word, notWhole, entryCount, stepListsIn}
+use Rattle.replies.specs.Lengths.{StepSizes}
+use Rattle.replies.proofs.Fitting.{steps-whole}
+use Rattle.query_bytes.specs.Interface.{stepsAndLevel, queryReply, queryBytes, QueriedBytes}
+use Rattle.check_bytes.specs.Interface.{checkReply}
 use Rattle.interface.proofs.Reading.{entries-left, left-length}
 use Rattle.interface.proofs.Widths.{column-low, Low, steps-low}
 

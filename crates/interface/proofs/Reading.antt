@@ -13,7 +13,7 @@ use Rattle.file.proofs.First.{numbered}
 use Rattle.completing.specs.Completing.{left}
 use Rattle.codec.specs.Bytes.{entry, bytesOf, firstEntries, entries}
 use Rattle.codec.proofs.Entries.{length-bytesOf, first-bytesOf, bytesOf-zeros}
-use Rattle.rtt.specs.Interface.{word}
+use Rattle.replies.specs.Interface.{word}
 
 -- ---- bytes and entries
 

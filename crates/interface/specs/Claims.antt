@@ -12,8 +12,11 @@ use Rattle.asking.specs.Asking.{Request, StepLists, stepIn, stepsIn}
 use Rattle.derivation.specs.Derivation.{HandedOut}
 use Rattle.completing.specs.Completing.{Lent}
 use Rattle.joint.specs.Joint.{InRange, InWrittenValidity, SomeProof}
-use Rattle.rtt.specs.Interface.{word, lentIn, completeBytes, stepListsIn, checkReply, QueriedBytes}
-use Rattle.rtt.specs.Lengths.{Rooms}
+use Rattle.replies.specs.Interface.{word, stepListsIn}
+use Rattle.replies.specs.Lengths.{Rooms}
+use Rattle.complete_bytes.specs.Interface.{lentIn, completeBytes}
+use Rattle.query_bytes.specs.Interface.{QueriedBytes}
+use Rattle.check_bytes.specs.Interface.{checkReply}
 
 -- A proof was handed out: r is the query's reply, and b are the bytes as it left them.
 pub record GivenBytes (f : List ℕ) (q : Request) (r : ℕ) (b : StepLists) : Type 0 where

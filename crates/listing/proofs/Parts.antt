@@ -9,14 +9,14 @@ use native.Mathlib.Omega.{arith}
 use lib.Dec.{T}
 use lib.ListN.{length}
 use Rattle.meaning.specs.Credentials.{Body, set, role, link, _∩_, _⊙_, _⊗_, covers, Credential, credentialAt}
-use Rattle.file.specs.Format.{N, credentialIn, credentials}
-use Rattle.file.proofs.Credentials.{length-credentials, credential-at}
+use Rattle.policy.specs.Policy.{credentialOf, credentialsOf}
+use Rattle.policy.proofs.Policies.{length-of, credential-of}
 use Rattle.store.proofs.Chains.{last-or-below}
 use Rattle.rules.specs.Uses.{Use, UsedBy}
 use Rattle.rules.proofs.UseLaws.{listed-none}
 use Rattle.heads.proofs.Gaining.{below-or-not}
 use Rattle.listing.specs.Sources.{UsedAs, Sourced, Named, Listing, Blank}
-use Rattle.listing.specs.Steps.{Room, From, Added, OfCredential, Part}
+use Rattle.listing.specs.Steps.{Room, Added, OfCredential, Part}
 use Rattle.listing.proofs.Adding.{named-stays, sourced-stays}
 
 pub part-start : {cs : List Credential} {m : ℕ} {codes valid lists sources : List ℕ} → Blank codes valid lists sources → Part cs m 0 codes valid lists sources 0 0
@@ -97,9 +97,9 @@ module _ {cs : List Credential} {m i : ℕ} {codes valid lists sources : List �
         complete = λ at k. p .complete at (subst⁻¹ (λ (x : ℕ). at < x) e k);
       }
 
--- the credentials of a file
-module _ (f : List ℕ) (m i : ℕ) (low : i < N f) (few : N f ≤ 256) {codes valid lists sources : List ℕ} {b h : ℕ} (p : Part (credentials f) m i codes valid lists sources b h) where
-  pub file-next : {codes′ valid′ lists′ sources′ : List ℕ} {b′ h′ : ℕ} → Added 2 (OfCredential m i (credentialIn f i)) codes sources b h codes′ valid′ lists′ sources′ b′ h′ → Part (credentials f) m (i + 1) codes′ valid′ lists′ sources′ b′ h′
-  file-next {codes′} {valid′} {lists′} {sources′} {b′} {h′} a =
-      part-next p (subst⁻¹ (λ (x : ℕ). i < x) (length-credentials f) low) (omega arith)
-      (subst⁻¹ (λ (c : Credential). Added 2 (OfCredential m i c) codes sources b h codes′ valid′ lists′ sources′ b′ h′) (credential-at f i low) a)
+-- the credentials of a policy
+module _ (p : List ℕ) (n m i : ℕ) (low : i < n) (few : n ≤ 256) {codes valid lists sources : List ℕ} {b h : ℕ} (w : Part (credentialsOf p n) m i codes valid lists sources b h) where
+  pub policy-next : {codes′ valid′ lists′ sources′ : List ℕ} {b′ h′ : ℕ} → Added 2 (OfCredential m i (credentialOf p i)) codes sources b h codes′ valid′ lists′ sources′ b′ h′ → Part (credentialsOf p n) m (i + 1) codes′ valid′ lists′ sources′ b′ h′
+  policy-next {codes′} {valid′} {lists′} {sources′} {b′} {h′} a =
+      part-next w (subst⁻¹ (λ (x : ℕ). i < x) (length-of p n) low) (omega arith)
+      (subst⁻¹ (λ (c : Credential). Added 2 (OfCredential m i c) codes sources b h codes′ valid′ lists′ sources′ b′ h′) (credential-of p n i low) a)

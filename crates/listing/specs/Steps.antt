@@ -5,10 +5,9 @@ use mathlib.Core.List.{List}
 use Prim.Native.Nat.{ℕ, _+_, _*_, _≤_, _<_}
 use lib.Dec.{T}
 use lib.ListN.{length, getD}
-use Rattle.meaning.specs.Credentials.{Body, set, role, link, _∩_, _⊙_, _⊗_, covers, Credential, credentialAt}
+use Rattle.meaning.specs.Credentials.{Body, covers, Credential, credentialAt}
 use Rattle.rules.specs.Uses.{Use, UsedBy, Listed, HeadOf}
 use Rattle.firing.specs.Firing.{Formed}
-use Rattle.listing.specs.declared.Premises.{Premises}
 use Rattle.listing.specs.Sources.{UsedAs, sourceOf, Sourced, Named}
 
 -- room for n more uses
@@ -43,18 +42,6 @@ pub record Added (n : ℕ) (New : Sources) (codes sources : List ℕ) (b h : ℕ
 -- one use, with the word s
 abbrev pub One : ℕ → Use → Sources
 One s u w x = (w ≡ s) × (x ≡ u)
-
--- the premises of a body
-abbrev pub premisesBy : ℕ → ℕ → ℕ → ℕ → Premises
-premisesBy kind first other second = record { kind = kind; first = first; other = other; second = second }
-
-abbrev pub premisesOf : Body → Premises
-premisesOf (set X) = premisesBy 0 0 0 0
-premisesOf (role Bs) = premisesBy 1 Bs 0 0
-premisesOf (link Bs t) = premisesBy 2 Bs t (1024 + t)
-premisesOf (Bs ∩ Ct) = premisesBy 3 Bs Ct Ct
-premisesOf (Bs ⊙ Ct) = premisesBy 4 Bs Ct Ct
-premisesOf (Bs ⊗ Ct) = premisesBy 5 Bs Ct Ct
 
 -- the uses of a body
 abbrev pub OfBody : ℕ → Body → ℕ → Sources

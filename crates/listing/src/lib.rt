@@ -1,32 +1,12 @@
 // The uses of the credentials that are valid at a minute, each with its source: the position of a credential that has it, and which premise it is.
-ghost use mathlib.Core.Path.{_≡_};
 ghost use Prim.Native.Nat.{_<_};
-ghost use Rattle.file.specs.Conditions.{Accepted};
-ghost use Rattle.file.specs.Format.{N, roleNumber, meaningOf, credentialIn, credentials};
+ghost use Rattle.policy.specs.Policy.{credentialOf, credentialsOf, statementIn, Decoded, bodyOf};
 ghost use Rattle.rules.specs.Uses.{useOf};
-ghost use Rattle.loading.specs.Steps.{Proper, Usable};
+ghost use Rattle.loading.specs.Steps.{Proper, Stated};
 ghost use Rattle.listing.specs.Sources.{Listing, Blank};
-ghost use Rattle.listing.specs.Steps.{Room, Added, One, premisesBy, premisesOf, OfBody, OfCredential};
-use file::Body;
-use file::Found;
-use file::Role;
+ghost use Rattle.listing.specs.Steps.{Room, Added, One, OfBody, OfCredential};
+use policy::Statement;
 use rules::Counts;
-
-// A body's kind, the role of its first premise, what the other premise is, and the family of the second; kind 0 has none, kind 1 has one.
-struct Premises {
-    kind: u32,
-    first: u32,
-    other: u32,
-    second: u32,
-}
-
-fn role_number(r: Role) -> u32
-    ensures { λ n. ⌜ n ≡ roleNumber r ⌝ }
-{
-    let e = r.issuer;
-    let s = r.name;
-    (e.0 as u32) * 32 + (s.0 as u32)
-}
 
 // A use, with its source where it is new.
 fn list_use(
@@ -53,62 +33,20 @@ fn list_use(
     d
 }
 
-// The premises of two roles, by a kind.
-fn pair(kind: u32, p: Role, q: Role) -> Premises
-    ensures { λ r. ⌜ r ≡ premisesBy kind (roleNumber p) (roleNumber q) (roleNumber q) ⌝ }
-{
-    let other = role_number(q);
-    Premises {
-        kind,
-        first: role_number(p),
-        other,
-        second: other,
-    }
-}
-
-fn read_premises(body: Body) -> Premises
-    ensures { λ r. ⌜ r ≡ premisesOf (meaningOf body) ⌝ }
-{
-    match body {
-        Body::Set(_) => Premises {
-            kind: 0,
-            first: 0,
-            other: 0,
-            second: 0,
-        },
-        Body::Inclusion(r) => Premises {
-            kind: 1,
-            first: role_number(r),
-            other: 0,
-            second: 0,
-        },
-        Body::Linked(r, t) => Premises {
-            kind: 2,
-            first: role_number(r),
-            other: t.0 as u32,
-            second: 1024 + (t.0 as u32),
-        },
-        Body::Intersection(p, q) => pair(3, p, q),
-        Body::Union(p, q) => pair(4, p, q),
-        Body::Disjoint(p, q) => pair(5, p, q),
-    }
-}
-
-// The uses of a body, by its first premise and by its second.
-fn list_body(
+// The uses of a statement, by its first premise and by its second.
+fn list_statement(
     codes: &mut [u32],
     valid: &mut [u64],
     lists: &mut [u16],
     sources: &mut [u16],
     c: Counts,
-    body: Body,
-    head: u32,
+    s: Statement,
     at: u16,
 ) -> Counts
-    requires { ⌜ Room 2 (now codes) (now valid) (now lists) (now sources) (c .bodies) (c .heads) ⌝ ∗ ⌜ Usable (meaningOf body) head ⌝ ∗ ⌜ at < 256 ⌝ }
-    ensures { λ r. ⌜ Added 2 (OfBody at (meaningOf body) head) (now (codes .entry)) (now (sources .entry)) (c .bodies) (c .heads) (now (codes .exit)) (now (valid .exit)) (now (lists .exit)) (now (sources .exit)) (r .bodies) (r .heads) ⌝ }
+    requires { ⌜ Room 2 (now codes) (now valid) (now lists) (now sources) (c .bodies) (c .heads) ⌝ ∗ ⌜ Stated s ⌝ ∗ ⌜ at < 256 ⌝ }
+    ensures { λ r. ⌜ Added 2 (OfBody at (bodyOf s) (s .head)) (now (codes .entry)) (now (sources .entry)) (c .bodies) (c .heads) (now (codes .exit)) (now (valid .exit)) (now (lists .exit)) (now (sources .exit)) (r .bodies) (r .heads) ⌝ }
 {
-    let x = read_premises(body);
+    let x = loading::premises_of(s);
     if x.kind == 0 {
         return c;
     }
@@ -121,7 +59,7 @@ fn list_body(
         x.first,
         x.kind,
         x.other,
-        head,
+        s.head,
         at,
     );
     if x.kind == 1 {
@@ -136,50 +74,30 @@ fn list_body(
         x.second,
         x.kind,
         x.first,
-        head,
+        s.head,
         at + 256,
     )
 }
 
-// The credential at a position, if it is valid at the minute. One of kind 0 has no uses.
+// The credential at a position, if it is valid at the minute.
 fn list_at(
     codes: &mut [u32],
     valid: &mut [u64],
     lists: &mut [u16],
     sources: &mut [u16],
-    file: &[u8],
+    policy: &[u64; 512],
     minute: u32,
     c: Counts,
     at: usize,
 ) -> Counts
-    requires { ⌜ Room 2 (now codes) (now valid) (now lists) (now sources) (c .bodies) (c .heads) ⌝ ∗ ⌜ Accepted (now file) × (at < N (now file)) ⌝ }
-    ensures { λ r. ⌜ Added 2 (OfCredential minute at (credentialIn (now (file .entry)) at)) (now (codes .entry)) (now (sources .entry)) (c .bodies) (c .heads) (now (codes .exit)) (now (valid .exit)) (now (lists .exit)) (now (sources .exit)) (r .bodies) (r .heads) ⌝ }
+    requires { ⌜ Room 2 (now codes) (now valid) (now lists) (now sources) (c .bodies) (c .heads) ⌝ ∗ ⌜ (at < 256) × Stated (statementIn (now policy) at) ⌝ }
+    ensures { λ r. ⌜ Added 2 (OfCredential minute at (credentialOf (now (policy .entry)) at)) (now (codes .entry)) (now (sources .entry)) (c .bodies) (c .heads) (now (codes .exit)) (now (valid .exit)) (now (lists .exit)) (now (sources .exit)) (r .bodies) (r .heads) ⌝ }
 {
-    if file[6 + 8 * at] == 0 {
+    if !policy::valid_at(policy, at, minute) {
         return c;
     }
-    match file::read_credential(file, at) {
-        Found::Credential(x) => {
-            if minute < x.period.from {
-                return c;
-            }
-            if x.period.until <= minute {
-                return c;
-            }
-            let body = x.body;
-            list_body(
-                codes,
-                valid,
-                lists,
-                sources,
-                c,
-                body,
-                role_number(x.head),
-                at as u16,
-            )
-        }
-        Found::End => c,
-    }
+    let s = policy::statement_at(policy, at);
+    list_statement(codes, valid, lists, sources, c, s, at as u16)
 }
 
 // All credentials. What `valid` holds then is not read again.
@@ -188,21 +106,20 @@ pub fn list_uses(
     valid: &mut [u64],
     lists: &mut [u16],
     sources: &mut [u16],
-    file: &[u8],
+    policy: &[u64; 512],
+    credentials: usize,
     minute: u32,
 ) -> Counts
-    requires { ⌜ Accepted (now file) ⌝ ∗ ⌜ Blank (now codes) (now valid) (now lists) (now sources) ⌝ }
-    ensures { λ r. ⌜ Listing (credentials (now (file .entry))) minute (now (codes .exit)) (now (lists .exit)) (now (sources .exit)) (r .bodies) (r .heads) ⌝ }
+    requires { ⌜ Decoded (now policy) credentials ⌝ ∗ ⌜ Blank (now codes) (now valid) (now lists) (now sources) ⌝ }
+    ensures { λ r. ⌜ Listing (credentialsOf (now (policy .entry)) credentials) minute (now (codes .exit)) (now (lists .exit)) (now (sources .exit)) (r .bodies) (r .heads) ⌝ }
 {
-    let h = file::read_head(file);
-    let count = h.credentials;
     let mut c = Counts {
         bodies: 0,
         heads: 0,
     };
     let mut at = 0;
-    while at < count {
-        c = list_at(codes, valid, lists, sources, file, minute, c, at);
+    while at < credentials {
+        c = list_at(codes, valid, lists, sources, policy, minute, c, at);
         at += 1;
     }
     c

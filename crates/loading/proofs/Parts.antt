@@ -1,18 +1,12 @@
--- The first i credentials of a file, one after another.
---
-use mathlib.Core.Path.{_≡_, sym, ap, _∙_, subst}
+-- The first i credentials of a policy, one after another.
+use mathlib.Core.Path.{_≡_, sym, _∙_, subst}
 use mathlib.Core.Logic.{_⊎_, inl, inr, _↔_}
 use mathlib.Core.List.{List}
 use Prim.Native.Nat.{ℕ, _+_, _≤_, _<_}
 use native.Mathlib.Nat.{not-suc-le-zero}
 use native.Mathlib.Omega.{arith}
 use lib.ListN.{length}
-use Rattle.file.specs.Format.{N, credentialIn}
-use Rattle.file.specs.Refusals.{Outcome, numberOf}
-use Rattle.file.specs.Values.{headIn}
-use Rattle.file.specs.Conditions.{Accepted}
-use Rattle.file.proofs.Sizes.{headed}
-use Rattle.file.proofs.Refusals.{head-read}
+use Rattle.policy.specs.Policy.{credentialOf}
 use Rattle.store.specs.Entries.{Has}
 use Rattle.store.proofs.Chains.{last-or-below}
 use Rattle.store.proofs.Stores.{empty-stored, has-none}
@@ -46,7 +40,7 @@ before-both {P} i {A} {B} e f = ((λ x. before-in {P = P} i (to (e .0 x))), λ x
     from (inl x) = inl (f .1 x)
     from (inr x) = inr x
 
-pub part-start : {f es : List ℕ} {m limit : ℕ} {keys spans slots links codes valid lists : List ℕ} → Blank keys spans slots links codes valid lists → Part f es m 0 limit keys spans slots links codes valid lists 0 0 0
+pub part-start : {p es : List ℕ} {m limit : ℕ} {keys spans slots links codes valid lists : List ℕ} → Blank keys spans slots links codes valid lists → Part p es m 0 limit keys spans slots links codes valid lists 0 0 0
 part-start {keys = keys} {spans} {slots} {links} {codes} {valid} {lists} b =
     record {
       kept = record {
@@ -66,33 +60,33 @@ part-start {keys = keys} {spans} {slots} {links} {codes} {valid} {lists} b =
       sets = λ k s. ((λ x. absurd (has-none keys spans k s x)), λ x. absurd (not-suc-le-zero (x .1)));
     }
 
-module _ {f es : List ℕ} {m i limit : ℕ} {keys spans slots links codes valid lists : List ℕ} {b h n : ℕ} (p : Part f es m i limit keys spans slots links codes valid lists b h n) where
-  pub part-ready : limit ≤ 1024 → i < N f → N f ≤ 256 → Ready limit keys spans slots links codes valid lists b h n
-  part-ready l k few =
+module _ {p es : List ℕ} {m i limit : ℕ} {keys spans slots links codes valid lists : List ℕ} {b h n : ℕ} (w : Part p es m i limit keys spans slots links codes valid lists b h n) where
+  pub part-ready : limit ≤ 1024 → i < 256 → Ready limit keys spans slots links codes valid lists b h n
+  part-ready l k =
       record {
-        kept = p .kept;
-        few = (p .few, l);
-        room = record { listed = p .listed; formed = p .formed; few = (omega (arith, p .small .0), omega (arith, p .small .1)) };
+        kept = w .kept;
+        few = (w .few, l);
+        room = record { listed = w .listed; formed = w .formed; few = (omega (arith, w .small .0), omega (arith, w .small .1)) };
       }
 
-  module _ {keys′ spans′ slots′ links′ codes′ valid′ lists′ : List ℕ} {b′ h′ n′ : ℕ} (c : CredentialLoaded es m (credentialIn f i) limit keys spans codes valid b h n keys′ spans′ slots′ links′ codes′ valid′ lists′ b′ h′ n′) where
-    pub part-next : n′ ≤ limit → Part f es m (i + 1) limit keys′ spans′ slots′ links′ codes′ valid′ lists′ b′ h′ n′
+  module _ {keys′ spans′ slots′ links′ codes′ valid′ lists′ : List ℕ} {b′ h′ n′ : ℕ} (c : CredentialLoaded es m (credentialOf p i) limit keys spans codes valid b h n keys′ spans′ slots′ links′ codes′ valid′ lists′ b′ h′ n′) where
+    pub part-next : n′ ≤ limit → Part p es m (i + 1) limit keys′ spans′ slots′ links′ codes′ valid′ lists′ b′ h′ n′
     part-next l =
         record {
           kept = c .sets .kept l;
           few = l;
           listed = c .uses .listed;
           formed = c .uses .formed;
-          small = (omega (arith, p .small .0, c .uses .few .0), omega (arith, p .small .1, c .uses .few .1));
-          uses = λ w s t. before-both {P = λ j. UseOf es m (credentialIn f j) w s} i (c .uses .exact w s t) (p .uses w s t);
-          sets = λ k s. before-both {P = λ j. SetOf es m (credentialIn f j) k s} i (c .sets .exact l k s) (p .sets k s);
+          small = (omega (arith, w .small .0, c .uses .few .0), omega (arith, w .small .1, c .uses .few .1));
+          uses = λ u s t. before-both {P = λ j. UseOf es m (credentialOf p j) u s} i (c .uses .exact u s t) (w .uses u s t);
+          sets = λ k s. before-both {P = λ j. SetOf es m (credentialOf p j) k s} i (c .sets .exact l k s) (w .sets k s);
         }
 
-    pub part-over : limit < n′ → Over limit (λ k. (s : ℕ) × Before (i + 1) (λ j. SetOf es m (credentialIn f j) k s))
-    part-over l = over-more (λ k w. (w .0, before-in {P = λ j. SetOf es m (credentialIn f j) k (w .0)} i (to k (w .0) (w .1)))) (c .sets .over l)
+    pub part-over : limit < n′ → Over limit (λ k. (s : ℕ) × Before (i + 1) (λ j. SetOf es m (credentialOf p j) k s))
+    part-over l = over-more (λ k x. (x .0, before-in {P = λ j. SetOf es m (credentialOf p j) k (x .0)} i (to k (x .0) (x .1)))) (c .sets .over l)
       where
-        to : (k s : ℕ) → Has keys spans n k s ⊎ SetOf es m (credentialIn f i) k s → Before i (λ j. SetOf es m (credentialIn f j) k s) ⊎ SetOf es m (credentialIn f i) k s
-        to k s (inl x) = inl (p .sets k s .0 x)
+        to : (k s : ℕ) → Has keys spans n k s ⊎ SetOf es m (credentialOf p i) k s → Before i (λ j. SetOf es m (credentialOf p j) k s) ⊎ SetOf es m (credentialOf p i) k s
+        to k s (inl x) = inl (w .sets k s .0 x)
         to k s (inr x) = inr x
 
   -- the lists stay as long as they are
@@ -100,10 +94,6 @@ module _ {f es : List ℕ} {m i limit : ℕ} {keys spans slots links codes valid
   part-alike z =
       let e = z .entries in
       let u = z .uses in
-      let a = p .kept .stored .room in
-      let b = p .listed .room in
-      (a .0 ∙ sym (e .0), p .kept .room ∙ sym (e .1), a .1 ∙ sym (e .2), a .2 ∙ sym (e .3), b .0 ∙ sym (u .0), b .1 ∙ sym (u .1), b .2 ∙ sym (u .2))
-
--- as many credentials are read as the file has
-pub head-count : (f : List ℕ) → Accepted f → headIn f .credentials ≡ N f
-head-count f a = headed f (ap (λ (o : Outcome ℕ). numberOf o) (head-read 0 f (a .head))) .credentials
+      let a = w .kept .stored .room in
+      let b = w .listed .room in
+      (a .0 ∙ sym (e .0), w .kept .room ∙ sym (e .1), a .1 ∙ sym (e .2), a .2 ∙ sym (e .3), b .0 ∙ sym (u .0), b .1 ∙ sym (u .1), b .2 ∙ sym (u .2))

@@ -1,4 +1,4 @@
--- What loading a file's credentials leaves: the uses of the statements valid in each span, and the sets that they state.
+-- What loading credentials leaves: the uses of the statements valid in each span, and the sets that they state.
 use mathlib.Core.Path.{_≡_}
 use mathlib.Core.Logic.{_↔_}
 use mathlib.Core.List.{List, []}
@@ -8,8 +8,7 @@ use lib.ListN.{length, getD}
 use Rattle.meaning.specs.Lists.{if}
 use Rattle.meaning.specs.Credentials.{Statement, Credential, validAt}
 use Rattle.meaning.specs.Table.{bit, ends, spanCount}
-use Rattle.file.specs.Format.{credentials}
-use Rattle.file.specs.Conditions.{Accepted}
+use Rattle.policy.specs.Policy.{credentialsOf, Decoded}
 use Rattle.ends.specs.Ends.{padded}
 use Rattle.firing.specs.Firing.{Held}
 use Rattle.closing.specs.Closing.{Policy, Closed, TooMany}
@@ -18,19 +17,20 @@ use Rattle.closing.specs.Closing.{Policy, Closed, TooMany}
 abbrev pub statementsIn : List ℕ → List Credential → ℕ → List Statement
 statementsIn es cs s = if (ltb s (spanCount es)) (validAt cs (getD es s 0)) []
 
--- of a file, by its own ends
-abbrev pub bySpan : List ℕ → ℕ → List Statement
-bySpan f = statementsIn (ends (credentials f)) (credentials f)
+-- by the credentials' own ends
+abbrev pub bySpan : List Credential → ℕ → List Statement
+bySpan cs = statementsIn (ends cs) cs
 
 -- the spans whose first minute the period covers, among the first n
 abbrev pub Masked : List ℕ → ℕ → ℕ → ℕ → ℕ → Type 0
 Masked es n from until m = (s : ℕ) → bit m s ≡ 1 ↔ ((s < n) × (from ≤ getD es s 0) × (getD es s 0 < until))
 
--- an accepted file, with its ends and the number of its spans
-pub record Loadable (f es : List ℕ) (count limit : ℕ) : Type 0 where
-  pub accepted : Accepted f
-  pub held : es ≡ padded 64 (ends (credentials f))
-  pub counted : count ≡ spanCount (ends (credentials f))
+-- a policy of n credentials, with its ends and the number of its spans
+pub record Loadable (p : List ℕ) (n : ℕ) (es : List ℕ) (count limit : ℕ) : Type 0 where
+  pub decoded : Decoded p n
+  pub few : length (ends (credentialsOf p n)) ≤ 64
+  pub held : es ≡ padded 64 (ends (credentialsOf p n))
+  pub counted : count ≡ spanCount (ends (credentialsOf p n))
   pub small : limit ≤ 1024
 
 -- lists with no entries and no uses
@@ -41,14 +41,14 @@ pub record Blank (keys spans slots links codes valid lists : List ℕ) : Type 0 
   pub linked : (p : ℕ) → p < 2048 → getD links p 0 ≡ 0
   pub listed : (p : ℕ) → p < 2592 → getD lists p 0 ≡ 0
 
--- the whole file is loaded, or there are too many memberships; nothing is done yet
-pub record Loaded (f : List ℕ) (limit : ℕ) (keys spans slots links done codes valid lists : List ℕ) (b h r : ℕ) : Type 0 where
+-- all credentials are loaded, or there are too many memberships; nothing is done yet
+pub record Loaded (cs : List Credential) (limit : ℕ) (keys spans slots links done codes valid lists : List ℕ) (b h r : ℕ) : Type 0 where
   pub held : r ≤ limit → Held keys spans slots links done r
-  pub policy : r ≤ limit → Policy (bySpan f) codes valid lists b h
-  pub closed : r ≤ limit → Closed (bySpan f) keys spans done r
-  pub over : limit < r → TooMany (bySpan f) limit
+  pub policy : r ≤ limit → Policy (bySpan cs) codes valid lists b h
+  pub closed : r ≤ limit → Closed (bySpan cs) keys spans done r
+  pub over : limit < r → TooMany (bySpan cs) limit
 
 -- for every list in which nothing is done
-abbrev pub LoadedFrom : List ℕ → ℕ → List ℕ → List ℕ → List ℕ → List ℕ → List ℕ → List ℕ → List ℕ → ℕ → ℕ → ℕ → Type 0
-LoadedFrom f limit keys spans slots links codes valid lists b h r =
-    (done : List ℕ) → ((i : ℕ) → getD done i 0 ≡ 0) → Loaded f limit keys spans slots links done codes valid lists b h r
+abbrev pub LoadedFrom : List Credential → ℕ → List ℕ → List ℕ → List ℕ → List ℕ → List ℕ → List ℕ → List ℕ → ℕ → ℕ → ℕ → Type 0
+LoadedFrom cs limit keys spans slots links codes valid lists b h r =
+    (done : List ℕ) → ((i : ℕ) → getD done i 0 ≡ 0) → Loaded cs limit keys spans slots links done codes valid lists b h r

@@ -1,5 +1,4 @@
--- What the private functions require and do.
---
+-- What a statement is used for, and what the private functions require and do.
 use mathlib.Core.Path.{_≡_}
 use mathlib.Core.Logic.{_⊎_, _↔_}
 use mathlib.Core.List.{List}
@@ -7,12 +6,14 @@ use Prim.Native.Nat.{ℕ, _+_, _*_, _≤_, _<_}
 use lib.ListN.{length, getD, take}
 use Rattle.meaning.specs.Credentials.{Body, set, role, link, _∩_, _⊙_, _⊗_, Period, Credential}
 use Rattle.meaning.specs.Table.{bit}
-use Rattle.file.specs.Format.{credentialIn}
+use Rattle.policy.specs.declared.Statement.{Statement}
+use Rattle.policy.specs.Policy.{credentialOf}
 use Rattle.ends.specs.Ends.{Rising}
 use Rattle.store.specs.Entries.{keyOf, Has}
-use Rattle.rules.specs.Uses.{Use, UsedBy, Uses, Listed, Fitting}
+use Rattle.rules.specs.Uses.{Use, useOf, UsedBy, Uses, Listed, Fitting}
 use Rattle.heads.specs.Gaining.{Spanned, Kept, Gains}
 use Rattle.firing.specs.Firing.{Formed}
+use Rattle.loading.specs.declared.Premises.{Premises}
 
 -- the first n places have the first minutes of spans, ascending
 pub record Spans (es : List ℕ) (n : ℕ) : Type 0 where
@@ -40,7 +41,7 @@ SetOf es n c k s = States (c .statement .body) (c .statement .head) k × During 
 abbrev pub UseOf : List ℕ → ℕ → Credential → Use → ℕ → Type 0
 UseOf es n c w s = UsedBy (c .statement .body) (c .statement .head) w × During es n (c .period) s
 
--- a use of an accepted file
+-- a use within the format's numbers
 pub record Proper (u : Use) : Type 0 where
   pub fitting : Fitting u
   pub kind : (1 ≤ u .kind) × (u .kind ≤ 5)
@@ -51,6 +52,33 @@ pub record Proper (u : Use) : Type 0 where
 pub record Usable (e : Body) (Ar : ℕ) : Type 0 where
   pub head : Ar < 1024
   pub proper : (u : Use) → UsedBy e Ar u → Proper u
+
+-- a statement within the format's numbers
+pub record Stated (s : Statement) : Type 0 where
+  pub kind : s .kind ≤ 5
+  pub head : s .head < 1024
+  pub first : (s .kind ≡ 0 → ⊥) → s .first < 1024
+  pub second : s .second < 1024
+  pub name : s .kind ≡ 2 → s .second < 32
+
+-- the premises of a body
+abbrev pub premisesBy : ℕ → ℕ → ℕ → ℕ → Premises
+premisesBy kind first other second = record { kind = kind; first = first; other = other; second = second }
+
+abbrev pub premisesOf : Body → Premises
+premisesOf (set X) = premisesBy 0 0 0 0
+premisesOf (role Bs) = premisesBy 1 Bs 0 0
+premisesOf (link Bs t) = premisesBy 2 Bs t (1024 + t)
+premisesOf (Bs ∩ Ct) = premisesBy 3 Bs Ct Ct
+premisesOf (Bs ⊙ Ct) = premisesBy 4 Bs Ct Ct
+premisesOf (Bs ⊗ Ct) = premisesBy 5 Bs Ct Ct
+
+-- the use by the first premise, and by the second
+abbrev pub firstUse : Premises → ℕ → Use
+firstUse x Ar = useOf (x .first) (x .kind) (x .other) Ar
+
+abbrev pub secondUse : Premises → ℕ → Use
+secondUse x Ar = useOf (x .second) (x .kind) (x .first) Ar
 
 -- room for two more uses
 pub record Room (codes valid lists : List ℕ) (b h : ℕ) : Type 0 where
@@ -91,12 +119,12 @@ pub record CredentialLoaded (es : List ℕ) (m : ℕ) (c : Credential) (limit : 
 abbrev pub Before : ℕ → (ℕ → Type 0) → Type 0
 Before i P = (j : ℕ) × (j < i) × P j
 
--- the first i credentials of a file are loaded, by the first m ends of es
-pub record Part (f es : List ℕ) (m i limit : ℕ) (keys spans slots links codes valid lists : List ℕ) (b h n : ℕ) : Type 0 where
+-- the first i credentials of a policy are loaded, by the first m ends of es
+pub record Part (p es : List ℕ) (m i limit : ℕ) (keys spans slots links codes valid lists : List ℕ) (b h n : ℕ) : Type 0 where
   pub kept : Kept keys spans slots links n
   pub few : n ≤ limit
   pub listed : Listed codes valid lists b h
   pub formed : Formed codes b h
   pub small : (b ≤ 2 * i) × (h ≤ 2 * i)
-  pub uses : (w : Use) (s : ℕ) → Fitting w → Uses codes valid b h w s ↔ Before i (λ j. UseOf es m (credentialIn f j) w s)
-  pub sets : (k s : ℕ) → Has keys spans n k s ↔ Before i (λ j. SetOf es m (credentialIn f j) k s)
+  pub uses : (w : Use) (s : ℕ) → Fitting w → Uses codes valid b h w s ↔ Before i (λ j. UseOf es m (credentialOf p j) w s)
+  pub sets : (k s : ℕ) → Has keys spans n k s ↔ Before i (λ j. SetOf es m (credentialOf p j) k s)

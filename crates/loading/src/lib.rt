@@ -1,19 +1,20 @@
-// Loading a file's credentials: sets into the store, other bodies into the lists of uses, each with the spans in which it is valid.
+// Loading the credentials of a policy: sets into the store, other bodies into the lists of uses, each with the spans in which it is valid.
 ghost use mathlib.Core.Path.{_≡_};
-ghost use Prim.Native.Nat.{ℕ, _+_, _-_, _^_, _<_, _≤_};
-ghost use lib.ListN.{length, getD};
-ghost use Rattle.file.specs.Conditions.{Accepted};
-ghost use Rattle.file.specs.Format.{N, roleNumber, meaningOf, credentialIn};
-ghost use Rattle.file.specs.Values.{meantBy};
-ghost use Rattle.rules.specs.Uses.{useOf};
+ghost use Prim.Native.Nat.{_-_, _^_, _<_, _≤_};
+ghost use Rattle.policy.specs.Policy.{credentialOf, credentialsOf, statementIn, bodyOf};
 ghost use Rattle.heads.specs.Gaining.{Kept, Gains};
 ghost use Rattle.loading.specs.Loading.{Masked, Loadable, Blank, LoadedFrom};
-ghost use Rattle.loading.specs.Steps.{Spans, Proper, Usable, Room, UsesAdded, Either, BodyUses, BodySets, Ready, CredentialLoaded};
-use file::Body;
-use file::Credential;
-use file::Found;
-use file::Role;
+ghost use Rattle.loading.specs.Steps.{Spans, Stated, premisesOf, Room, UsesAdded, BodyUses, BodySets, Ready, CredentialLoaded};
+use policy::Statement;
 use rules::Counts;
+
+// The kind of a statement, the role of its first premise, what the other premise is, and the family of the second; kind 0 has none, kind 1 has one.
+pub struct Premises {
+    pub kind: u32,
+    pub first: u32,
+    pub other: u32,
+    pub second: u32,
+}
 
 // How many entries, bodies and heads there are.
 pub struct Amounts {
@@ -42,114 +43,67 @@ fn span_mask(ends: &[u32], n: usize, from: u32, until: u32) -> u64
     spans_between(p, q)
 }
 
-fn role_number(r: Role) -> u32
-    ensures { λ n. ⌜ n ≡ roleNumber r ⌝ }
+// The premises of a statement.
+pub fn premises_of(s: Statement) -> Premises
+    requires { ⌜ Stated s ⌝ }
+    ensures { λ r. ⌜ r ≡ premisesOf (bodyOf s) ⌝ }
 {
-    let e = r.issuer;
-    let s = r.name;
-    (e.0 as u32) * 32 + (s.0 as u32)
+    if s.kind == 0 {
+        return Premises {
+            kind: 0,
+            first: 0,
+            other: 0,
+            second: 0,
+        };
+    }
+    if s.kind == 1 {
+        return Premises {
+            kind: 1,
+            first: s.first,
+            other: 0,
+            second: 0,
+        };
+    }
+    if s.kind == 2 {
+        return Premises {
+            kind: 2,
+            first: s.first,
+            other: s.second,
+            second: 1024 + s.second,
+        };
+    }
+    Premises {
+        kind: s.kind,
+        first: s.first,
+        other: s.second,
+        second: s.second,
+    }
 }
 
-// The uses of a body of two roles.
-fn load_pair(
-    codes: &mut [u32],
-    valid: &mut [u64],
-    lists: &mut [u16],
-    c: Counts,
-    kind: u32,
-    p: u32,
-    q: u32,
-    head: u32,
-    v: u64,
-) -> Counts
-    requires { ⌜ Room (now codes) (now valid) (now lists) (c .bodies) (c .heads) ⌝ ∗ ⌜ Proper (useOf p kind q head) × Proper (useOf q kind p head) ⌝ }
-    ensures { λ r. ⌜ UsesAdded (Either (useOf p kind q head) (useOf q kind p head) v) (now (codes .entry)) (now (valid .entry)) (c .bodies) (c .heads) (now (codes .exit)) (now (valid .exit)) (now (lists .exit)) (r .bodies) (r .heads) ⌝ }
-{
-    let d = rules::add_use(codes, valid, lists, c, p, kind, q, head, v);
-    rules::add_use(codes, valid, lists, d, q, kind, p, head, v)
-}
-
-// The uses of a linked role.
-fn load_link(
-    codes: &mut [u32],
-    valid: &mut [u64],
-    lists: &mut [u16],
-    c: Counts,
-    role: u32,
-    t: u32,
-    head: u32,
-    v: u64,
-) -> Counts
-    requires { ⌜ Room (now codes) (now valid) (now lists) (c .bodies) (c .heads) ⌝ ∗ ⌜ Proper (useOf role 2 t head) × Proper (useOf (1024 + t) 2 role head) ⌝ }
-    ensures { λ r. ⌜ UsesAdded (Either (useOf role 2 t head) (useOf (1024 + t) 2 role head) v) (now (codes .entry)) (now (valid .entry)) (c .bodies) (c .heads) (now (codes .exit)) (now (valid .exit)) (now (lists .exit)) (r .bodies) (r .heads) ⌝ }
-{
-    let d = rules::add_use(codes, valid, lists, c, role, 2, t, head, v);
-    rules::add_use(codes, valid, lists, d, 1024 + t, 2, role, head, v)
-}
-
-// The uses of a body; a set has none.
+// The uses of a statement, by its first premise and by its second.
 fn load_uses(
     codes: &mut [u32],
     valid: &mut [u64],
     lists: &mut [u16],
     c: Counts,
-    body: Body,
-    head: u32,
+    s: Statement,
     v: u64,
 ) -> Counts
-    requires { ⌜ Room (now codes) (now valid) (now lists) (c .bodies) (c .heads) ⌝ ∗ ⌜ Usable (meaningOf body) head ⌝ }
-    ensures { λ r. ⌜ UsesAdded (BodyUses (meaningOf body) head v) (now (codes .entry)) (now (valid .entry)) (c .bodies) (c .heads) (now (codes .exit)) (now (valid .exit)) (now (lists .exit)) (r .bodies) (r .heads) ⌝ }
+    requires { ⌜ Room (now codes) (now valid) (now lists) (c .bodies) (c .heads) ⌝ ∗ ⌜ Stated s ⌝ }
+    ensures { λ r. ⌜ UsesAdded (BodyUses (bodyOf s) (s .head) v) (now (codes .entry)) (now (valid .entry)) (c .bodies) (c .heads) (now (codes .exit)) (now (valid .exit)) (now (lists .exit)) (r .bodies) (r .heads) ⌝ }
 {
-    match body {
-        Body::Set(_) => c,
-        Body::Inclusion(r) => rules::add_use(codes, valid, lists, c, role_number(r), 1, 0, head, v),
-        Body::Linked(r, t) => load_link(
-            codes,
-            valid,
-            lists,
-            c,
-            role_number(r),
-            t.0 as u32,
-            head,
-            v,
-        ),
-        Body::Intersection(p, q) => load_pair(
-            codes,
-            valid,
-            lists,
-            c,
-            3,
-            role_number(p),
-            role_number(q),
-            head,
-            v,
-        ),
-        Body::Union(p, q) => load_pair(
-            codes,
-            valid,
-            lists,
-            c,
-            4,
-            role_number(p),
-            role_number(q),
-            head,
-            v,
-        ),
-        Body::Disjoint(p, q) => load_pair(
-            codes,
-            valid,
-            lists,
-            c,
-            5,
-            role_number(p),
-            role_number(q),
-            head,
-            v,
-        ),
+    let x = premises_of(s);
+    if x.kind == 0 {
+        return c;
     }
+    let d = rules::add_use(codes, valid, lists, c, x.first, x.kind, x.other, s.head, v);
+    if x.kind == 1 {
+        return d;
+    }
+    rules::add_use(codes, valid, lists, d, x.second, x.kind, x.first, s.head, v)
 }
 
-// The set of a body; other bodies state none.
+// The set of a statement; kinds other than 0 state none.
 fn load_set(
     keys: &mut [u64],
     spans: &mut [u64],
@@ -157,55 +111,28 @@ fn load_set(
     links: &mut [u16],
     n: usize,
     limit: usize,
-    body: Body,
-    head: u32,
+    s: Statement,
     v: u64,
 ) -> usize
-    requires { ⌜ Kept (now keys) (now spans) (now slots) (now links) n ⌝ ∗ ⌜ (n ≤ limit) × (limit ≤ 1024) × (head < 1024) ⌝ }
-    ensures { λ r. ⌜ Gains limit (now (keys .entry)) (now (spans .entry)) n (BodySets (meaningOf body) head v) (now (keys .exit)) (now (spans .exit)) (now (slots .exit)) (now (links .exit)) r ⌝ }
+    requires { ⌜ Kept (now keys) (now spans) (now slots) (now links) n ⌝ ∗ ⌜ (n ≤ limit) × (limit ≤ 1024) ⌝ ∗ ⌜ Stated s ⌝ }
+    ensures { λ r. ⌜ Gains limit (now (keys .entry)) (now (spans .entry)) n (BodySets (bodyOf s) (s .head) v) (now (keys .exit)) (now (spans .exit)) (now (slots .exit)) (now (links .exit)) r ⌝ }
 {
-    match body {
-        Body::Set(x) => store::add(
-            keys,
-            spans,
-            slots,
-            links,
-            n,
-            limit,
-            (head as u64) * 4294967296 + (x as u64),
-            v,
-        ),
-        _ => n,
+    if s.kind != 0 {
+        return n;
     }
+    store::add(
+        keys,
+        spans,
+        slots,
+        links,
+        n,
+        limit,
+        (s.head as u64) * 4294967296 + (s.set as u64),
+        v,
+    )
 }
 
-// One credential, by the first `count` ends.
-fn load_credential(
-    keys: &mut [u64],
-    spans: &mut [u64],
-    slots: &mut [u16],
-    links: &mut [u16],
-    codes: &mut [u32],
-    valid: &mut [u64],
-    lists: &mut [u16],
-    ends: &[u32],
-    count: usize,
-    limit: usize,
-    a: Amounts,
-    x: Credential,
-) -> Amounts
-    requires { ⌜ Ready limit (now keys) (now spans) (now slots) (now links) (now codes) (now valid) (now lists) (a .uses .bodies) (a .uses .heads) (a .entries) ⌝ ∗ ⌜ Spans (now ends) count ⌝ ∗ ⌜ Usable (meaningOf (x .body)) (roleNumber (x .head)) ⌝ }
-    ensures { λ r. ⌜ CredentialLoaded (now (ends .entry)) count (meantBy x) limit (now (keys .entry)) (now (spans .entry)) (now (codes .entry)) (now (valid .entry)) (a .uses .bodies) (a .uses .heads) (a .entries) (now (keys .exit)) (now (spans .exit)) (now (slots .exit)) (now (links .exit)) (now (codes .exit)) (now (valid .exit)) (now (lists .exit)) (r .uses .bodies) (r .uses .heads) (r .entries) ⌝ }
-{
-    let body = x.body;
-    let head = role_number(x.head);
-    let v = span_mask(ends, count, x.period.from, x.period.until);
-    let uses = load_uses(codes, valid, lists, a.uses, body, head, v);
-    let entries = load_set(keys, spans, slots, links, a.entries, limit, body, head, v);
-    Amounts { entries, uses }
-}
-
-// The credential at position i of an accepted file; there is one.
+// The credential at position i, by the first `count` ends.
 fn load_at(
     keys: &mut [u64],
     spans: &mut [u64],
@@ -214,38 +141,28 @@ fn load_at(
     codes: &mut [u32],
     valid: &mut [u64],
     lists: &mut [u16],
-    file: &[u8],
+    policy: &[u64; 512],
     ends: &[u32],
     count: usize,
     limit: usize,
     a: Amounts,
     i: usize,
 ) -> Amounts
-    requires { ⌜ Ready limit (now keys) (now spans) (now slots) (now links) (now codes) (now valid) (now lists) (a .uses .bodies) (a .uses .heads) (a .entries) ⌝ ∗ ⌜ Spans (now ends) count ⌝ ∗ ⌜ Accepted (now file) × (i < N (now file)) ⌝ }
-    ensures { λ r. ⌜ CredentialLoaded (now (ends .entry)) count (credentialIn (now (file .entry)) i) limit (now (keys .entry)) (now (spans .entry)) (now (codes .entry)) (now (valid .entry)) (a .uses .bodies) (a .uses .heads) (a .entries) (now (keys .exit)) (now (spans .exit)) (now (slots .exit)) (now (links .exit)) (now (codes .exit)) (now (valid .exit)) (now (lists .exit)) (r .uses .bodies) (r .uses .heads) (r .entries) ⌝ }
+    requires { ⌜ Ready limit (now keys) (now spans) (now slots) (now links) (now codes) (now valid) (now lists) (a .uses .bodies) (a .uses .heads) (a .entries) ⌝ ∗ ⌜ Spans (now ends) count ⌝ ∗ ⌜ (i < 256) × Stated (statementIn (now policy) i) ⌝ }
+    ensures { λ r. ⌜ CredentialLoaded (now (ends .entry)) count (credentialOf (now (policy .entry)) i) limit (now (keys .entry)) (now (spans .entry)) (now (codes .entry)) (now (valid .entry)) (a .uses .bodies) (a .uses .heads) (a .entries) (now (keys .exit)) (now (spans .exit)) (now (slots .exit)) (now (links .exit)) (now (codes .exit)) (now (valid .exit)) (now (lists .exit)) (r .uses .bodies) (r .uses .heads) (r .entries) ⌝ }
 {
-    match file::read_credential(file, i) {
-        Found::Credential(x) => load_credential(
-            keys,
-            spans,
-            slots,
-            links,
-            codes,
-            valid,
-            lists,
-            ends,
-            count,
-            limit,
-            a,
-            x,
-        ),
-        Found::End => a,
-    }
+    let s = policy::statement_at(policy, i);
+    let t = policy::period_at(policy, i);
+    let v = span_mask(ends, count, t.from, t.until);
+    let uses = load_uses(codes, valid, lists, a.uses, s, v);
+    let entries = load_set(keys, spans, slots, links, a.entries, limit, s, v);
+    Amounts { entries, uses }
 }
 
-// All credentials of an accepted file, whose ends are given. Above the limit: there are too many memberships.
+// All credentials of a policy, whose ends are given. Above the limit: there are too many memberships.
 pub fn load(
-    file: &[u8],
+    policy: &[u64; 512],
+    credentials: usize,
     ends: &[u32],
     count: usize,
     keys: &mut [u64],
@@ -257,11 +174,9 @@ pub fn load(
     lists: &mut [u16],
     limit: usize,
 ) -> Amounts
-    requires { ⌜ Loadable (now file) (now ends) count limit ⌝ ∗ ⌜ Blank (now keys) (now spans) (now slots) (now links) (now codes) (now valid) (now lists) ⌝ }
-    ensures { λ r. ⌜ LoadedFrom (now (file .entry)) limit (now (keys .exit)) (now (spans .exit)) (now (slots .exit)) (now (links .exit)) (now (codes .exit)) (now (valid .exit)) (now (lists .exit)) (r .uses .bodies) (r .uses .heads) (r .entries) ⌝ }
+    requires { ⌜ Loadable (now policy) credentials (now ends) count limit ⌝ ∗ ⌜ Blank (now keys) (now spans) (now slots) (now links) (now codes) (now valid) (now lists) ⌝ }
+    ensures { λ r. ⌜ LoadedFrom (credentialsOf (now (policy .entry)) credentials) limit (now (keys .exit)) (now (spans .exit)) (now (slots .exit)) (now (links .exit)) (now (codes .exit)) (now (valid .exit)) (now (lists .exit)) (r .uses .bodies) (r .uses .heads) (r .entries) ⌝ }
 {
-    let h = file::read_head(file);
-    let credentials = h.credentials;
     let mut a = Amounts {
         entries: 0,
         uses: Counts {
@@ -279,7 +194,7 @@ pub fn load(
             codes,
             valid,
             lists,
-            file,
+            policy,
             ends,
             count,
             limit,

@@ -1,16 +1,14 @@
 -- What the search leaves: exactly the memberships at the minute, each at its least level.
-use mathlib.Core.Path.{_≡_, refl, sym, ap, _∙_, subst, subst⁻¹}
-use mathlib.Core.Bool.{Bool, true, false}
+use mathlib.Core.Path.{_≡_, sym, ap, _∙_, subst}
+use mathlib.Core.Bool.{true, false}
 use mathlib.Core.List.{List, map, List·Memᴰ as Mem}
 use Prim.Native.Nat.{ℕ, _^_, _≤_, _<_, zero-le}
 use native.Mathlib.Nat.{le-antisymm}
 use native.Mathlib.Omega.{arith}
-use lib.Dec.{T}
 use lib.ListN.{length, getD, length-map}
 use Rattle.meaning.specs.Credentials.{Credential, validAt, FitsAll}
 use Rattle.meaning.specs.Sequence.{S, Least}
 use Rattle.meaning.specs.Members.{Membership, member, has, members, leastLevel}
-use Rattle.meaning.specs.Table.{Row}
 use Rattle.meaning.proofs.ListLaws.{map-in, cast}
 use Rattle.meaning.proofs.Tests.{is-true, is-false}
 use Rattle.meaning.proofs.SortLaws.{Within, within-length}
@@ -23,7 +21,7 @@ use Rattle.store.specs.Entries.{keyOf, roleIn, setIn}
 use Rattle.store.proofs.Keys.{role-of-key, set-of-key}
 use Rattle.derivation.specs.Derivation.{stepOf, shownOf, levelOf}
 use Rattle.derivation.proofs.Positions.{shown-sound}
-use Rattle.writing.specs.Columns.{rowAt, rowsOf}
+use Rattle.writing.specs.Columns.{rowsOf}
 use Rattle.writing.proofs.Gathering.{keys-ascending, rows-gathered, rows-length}
 use Rattle.searching.specs.Searching.{Searched}
 

@@ -1,26 +1,26 @@
 -- The reply and the lists of each way in which querying ends.
 use mathlib.Core.Path.{_≡_, refl, sym, ap, _∙_, subst}
 use mathlib.Core.Logic.{_⊎_, inl, inr}
-use mathlib.Core.Bool.{Bool, true, false, _||_, not}
+use mathlib.Core.Bool.{Bool, true, false, not}
 use mathlib.Core.List.{List, [], _∷_}
-use Prim.Native.Nat.{ℕ, _≤_, _<_}
+use Prim.Native.Nat.{ℕ, _≤_}
 use native.Mathlib.Omega.{arith}
 use borrow.Author.Tests.{eq-eqb, ne-eqb}
-use lib.Dec.{eqb, ltb}
+use lib.Dec.{ltb}
 use lib.ListN.{length, replicate}
 use Rattle.meaning.specs.Lists.{if}
 use Rattle.meaning.specs.Members.{member, has, members}
 use Rattle.meaning.specs.Proofs.{Step}
 use Rattle.file.specs.declared.Refusal.{Refusal}
 use Rattle.file.specs.Values.{firstRefusal}
-use Rattle.file.specs.Refusals.{Row, Outcome, done, refused, first}
+use Rattle.file.specs.Refusals.{Outcome, done, refused, first}
 use Rattle.file.specs.Format.{credentials}
 use Rattle.asking.specs.Asking.{Request, StepLists, stepLists, size, asking}
 use Rattle.asking.proofs.Asked.{asked-refused, asked-passed, asked-low}
 use Rattle.derivation.specs.Derivation.{HandedOut, words}
 use Rattle.completing.specs.Completing.{left}
 use Rattle.querying.specs.declared.Search.{Search}
-use Rattle.querying.specs.Querying.{Counts, counts, fullRow, noneRow, levelFor, replyWith, Ending, ending, querying, Queried}
+use Rattle.querying.specs.Querying.{Counts, counts, fullRow, noneRow, levelFor, replyWith, ending, querying, Queried}
 use Rattle.querying.specs.Working.{replyOf, Worked}
 
 -- a refusal other than 10 and 13 leaves a list as it was, and these leave zeros

@@ -1,5 +1,5 @@
 -- What the search and the proof of an entry come to: 10, 13 or a proof.
-use mathlib.Core.Path.{_≡_, refl, sym, ap, _∙_, subst, subst⁻¹}
+use mathlib.Core.Path.{_≡_, refl, ap, _∙_, subst, subst⁻¹}
 use mathlib.Core.Bool.{Bool, true, false, _&&_}
 use mathlib.Core.List.{List, []}
 use Prim.Native.Nat.{ℕ, zero, suc, _-_, _^_, _≤_, _<_}
@@ -8,7 +8,7 @@ use borrow.Author.Tests.{lt-ltb, le-ltb}
 use lib.Dec.{T, eqb, leb, ltb, eqb→eq, leb→le, lt→ltb}
 use lib.ListN.{length, getD, replicate, length-replicate}
 use Rattle.meaning.specs.Credentials.{Credential, FitsAll, credentialAt}
-use Rattle.meaning.specs.Members.{member, has, members}
+use Rattle.meaning.specs.Members.{members}
 use Rattle.meaning.specs.Proofs.{citesFirst, citesSecond}
 use Rattle.meaning.proofs.Tests.{and-left, and-right}
 use Rattle.file.specs.Reading.{between}

@@ -5,6 +5,7 @@ ghost use lib.ListN.{length, replicate};
 ghost use Rattle.store.specs.Entries.{keyOf, Searchable};
 ghost use Rattle.derivation.specs.Derivation.{levelOf};
 ghost use Rattle.file.specs.Conditions.{Accepted};
+ghost use Rattle.policy.specs.Policy.{PolicyOf};
 ghost use Rattle.asking.specs.Asking.{request, stepLists};
 ghost use Rattle.searching.specs.Searching.{Empty};
 ghost use Rattle.querying.specs.Querying.{Queried, says};
@@ -111,11 +112,13 @@ fn work(
     lists: &mut [u16],
     sources: &mut [u16],
     file: &[u8],
+    policy: &[u64; 512],
+    count: usize,
     role: u32,
     set: u32,
     minute: u32,
 ) -> Search
-    requires { ⌜ Accepted (now file) ⌝ ∗ ⌜ Empty (now keys) (now slots) (now links) (now notes) (now codes) (now lists) (now sources) ⌝ ∗ ⌜ (length (now first) ≡ length (now credential)) × (length (now second) ≡ length (now credential)) × (length (now sets) ≡ length (now credential)) × (length (now credential) ≤ 1024) ⌝ }
+    requires { ⌜ Accepted (now file) ⌝ ∗ ⌜ PolicyOf (now file) (now policy) count ⌝ ∗ ⌜ Empty (now keys) (now slots) (now links) (now notes) (now codes) (now lists) (now sources) ⌝ ∗ ⌜ (length (now first) ≡ length (now credential)) × (length (now second) ≡ length (now credential)) × (length (now sets) ≡ length (now credential)) × (length (now credential) ≤ 1024) ⌝ }
     ensures { λ r. ⌜ Worked (now (file .entry)) (request role set minute) (length (now (credential .entry))) (now (credential .exit)) (now (first .exit)) (now (second .exit)) (now (sets .exit)) r ⌝ }
 {
     let limit = credential.len();
@@ -128,6 +131,8 @@ fn work(
         lists,
         sources,
         file,
+        policy,
+        count,
         minute,
         limit,
     );
@@ -154,11 +159,13 @@ fn run(
     second: &mut [u32],
     sets: &mut [u32],
     file: &[u8],
+    policy: &[u64; 512],
+    count: usize,
     role: u32,
     set: u32,
     minute: u32,
 ) -> Search
-    requires { ⌜ Accepted (now file) ⌝ ∗ ⌜ (length (now first) ≡ length (now credential)) × (length (now second) ≡ length (now credential)) × (length (now sets) ≡ length (now credential)) × (length (now credential) ≤ 1024) ⌝ }
+    requires { ⌜ Accepted (now file) ⌝ ∗ ⌜ PolicyOf (now file) (now policy) count ⌝ ∗ ⌜ (length (now first) ≡ length (now credential)) × (length (now second) ≡ length (now credential)) × (length (now sets) ≡ length (now credential)) × (length (now credential) ≤ 1024) ⌝ }
     ensures { λ r. ⌜ Worked (now (file .entry)) (request role set minute) (length (now (credential .entry))) (now (credential .exit)) (now (first .exit)) (now (second .exit)) (now (sets .exit)) r ⌝ }
 {
     let mut keys = room_for_keys();
@@ -181,6 +188,8 @@ fn run(
         &mut lists,
         &mut sources,
         file,
+        policy,
+        count,
         role,
         set,
         minute,
@@ -200,14 +209,36 @@ pub fn query(
 ) -> Answer
     ensures { λ r. ⌜ Queried (now (file .entry)) (request role set minute) (stepLists (now (credential .entry)) (now (first .entry)) (now (second .entry)) (now (sets .entry))) (says r) (stepLists (now (credential .exit)) (now (first .exit)) (now (second .exit)) (now (sets .exit))) ⌝ }
 {
-    let j = asking::judge(file, role, set, minute, credential, first, second, sets);
+    let mut policy = policy::room();
+    let j = asking::judge(
+        &mut policy,
+        file,
+        role,
+        set,
+        minute,
+        credential,
+        first,
+        second,
+        sets,
+    );
     if j.number != 0 {
         return Answer::Refused {
             number: j.number,
             place: j.place,
         };
     }
-    let r = run(credential, first, second, sets, file, role, set, minute);
+    let r = run(
+        credential,
+        first,
+        second,
+        sets,
+        file,
+        &policy,
+        j.credentials,
+        role,
+        set,
+        minute,
+    );
     if r.number != 0 {
         writing::clear32(credential);
         writing::clear32(first);

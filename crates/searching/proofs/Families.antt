@@ -1,21 +1,21 @@
 -- The loop along the list of a family's bodies, while entries are added: what they give goes by entries that stay.
-use mathlib.Core.Path.{_≡_, sym, ap, _∙_, subst}
+use mathlib.Core.Path.{_≡_, sym, _∙_, subst}
 use mathlib.Core.Logic.{_⊎_, inl, inr}
 use mathlib.Core.List.{List}
-use Prim.Native.Nat.{ℕ, suc, _+_, _-_, _%_, _≤_, _<_}
+use Prim.Native.Nat.{ℕ, _+_, _-_, _%_, _≤_, _<_}
 use native.Mathlib.Omega.{arith}
 use lib.ListN.{length, getD}
 use Rattle.store.specs.Entries.{roleIn, latest}
 use Rattle.heads.specs.Walks.{On, From}
 use Rattle.heads.proofs.Walks.{on-latest, lower, from-none, from-next}
-use Rattle.firing.specs.Steps.{familyOf, kindOf, otherOf}
+use Rattle.firing.specs.Steps.{familyOf}
 use Rattle.firing.proofs.Firings.{family-low, families-next}
 use Rattle.deriving.specs.declared.Turn.{Turn}
 use Rattle.deriving.specs.Offers.{Ready, Adds}
 use Rattle.bodies.specs.Bodies.{FamilyOf, ByBody}
 use Rattle.searching.specs.Giving.{ByFamily}
 use Rattle.deriving.proofs.Heading.{ready-next, upto-same, partner-same}
-use Rattle.deriving.proofs.Growing.{level-same, gains-none, gains-less, gains-over, gains-then, alike}
+use Rattle.deriving.proofs.Growing.{gains-none, gains-less, gains-over, gains-then, alike}
 
 -- ---- after an addition
 

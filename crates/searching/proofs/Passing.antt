@@ -1,19 +1,18 @@
 -- One credential after the other.
-use mathlib.Core.Path.{_≡_, sym, ap, _∙_, subst}
+use mathlib.Core.Path.{_≡_, _∙_, subst}
 use mathlib.Core.Logic.{_⊎_, inl, inr}
 use mathlib.Core.List.{List, _++_}
-use Prim.Native.Nat.{ℕ, suc, _+_, _≤_, _<_}
+use Prim.Native.Nat.{ℕ, _+_, _≤_, _<_}
 use native.Mathlib.Nat.{not-suc-le-zero}
 use native.Mathlib.Omega.{arith}
-use lib.ListN.{length, getD, take, drop, length-take, length-drop, length-append}
+use lib.ListN.{length, take, drop, length-take, length-drop, length-append}
 use Rattle.meaning.specs.Credentials.{Statement, Credential}
 use Rattle.store.proofs.Chains.{last-or-below}
 use Rattle.store.proofs.Stores.{empty-stored}
-use Rattle.derivation.specs.Derivation.{levelOf}
 use Rattle.searching.specs.Searching.{Empty}
-use Rattle.searching.specs.Giving.{GivenBy, Fires, AtMinute, Some}
-use Rattle.deriving.specs.Gaining.{Kept, Grown, Gains}
-use Rattle.deriving.proofs.Growing.{level-same, gains-none, gains-less, gains-over, gains-then}
+use Rattle.searching.specs.Giving.{AtMinute, Some}
+use Rattle.deriving.specs.Gaining.{Kept, Gains}
+use Rattle.deriving.proofs.Growing.{gains-none, gains-less, gains-over, gains-then}
 
 -- what the first `at` credentials give was added, within the limit
 pub record Part (cs : List Credential) (m limit : ℕ) (keys notes : List ℕ) (n top : ℕ) (P : Statement → ℕ → Type 0) (keys′ slots′ links′ notes′ : List ℕ) (r at : ℕ) : Type 0 where
@@ -40,24 +39,6 @@ module _ {cs : List Credential} {m limit : ℕ} {keys notes : List ℕ} {n top :
               let v = subst (λ (x : ℕ). AtMinute cs m x P key) q w in
               inr record { valid = v .valid; holds = f _ key (v .holds) }
           split key (i, o, w) (inr q) = inl (i, q, w)
-
--- entry e fires in longer lists as it did
-module _ {keys notes keys′ notes′ : List ℕ} {n r e : ℕ} (g : Grown keys notes n keys′ notes′ r) (low : e < n) where
-  pub fires-grown : (s : Statement) (key : ℕ) → Fires s keys e key → Fires s keys′ e key
-  fires-grown s key w =
-      let p : getD keys (w .first) 0 ≡ getD keys′ (w .first) 0 = sym (g .same (w .first) (let o = w .low .0 in omega arith)) in
-      let q : getD keys (w .second) 0 ≡ getD keys′ (w .second) 0 = sym (g .same (w .second) (let o = w .low .1 in omega arith)) in
-      record {
-        first = w .first;
-        second = w .second;
-        low = w .low;
-        new = w .new;
-        premises = w .premises;
-        given = subst (λ (x : ℕ). GivenBy s x (getD keys′ (w .second) 0) key) p (subst (λ (y : ℕ). GivenBy s (getD keys (w .first) 0) y key) q (w .given));
-      }
-
-  pub level-kept : {level : ℕ} → level ≡ suc (levelOf notes e) → level ≡ suc (levelOf notes′ e)
-  level-kept q = q ∙ ap suc (sym (level-same g e low))
 
 pub kept-up : {cs : List Credential} {m : ℕ} {keys slots links notes : List ℕ} {n top top′ : ℕ} → top ≤ top′ → Kept cs m keys slots links notes n top → Kept cs m keys slots links notes n top′
 kept-up l k = record { stored = k .stored; room = k .room; derived = k .derived; ordered = k .ordered; under = λ i o. (let u = k .under i o in omega arith); low = k .low }

@@ -1,41 +1,24 @@
--- The credential that is read at a position of an accepted file, and the set that it states.
+-- The credential at a position of a decoded policy, and the set that it states.
 use mathlib.Core.Path.{_≡_, refl, sym, ap, _∙_, subst, subst⁻¹}
-use mathlib.Core.Logic.{inl, inr}
-use mathlib.Core.Bool.{Bool, true, false, not, _&&_}
-use mathlib.Core.List.{List, [], _∷_}
-use Prim.Native.Nat.{ℕ, _+_, _*_, _^_, _≤_, _<_}
+use mathlib.Core.Bool.{Bool, true, false, not}
+use mathlib.Core.List.{List}
+use Prim.Native.Nat.{ℕ, _*_, _≤_, _<_}
 use native.Mathlib.Omega.{arith}
-use types.Run.{OneOf}
-use denote.Enum.Declared.{tagOf}
-use lib.Dec.{T, leb, ltb}
-use lib.ListN.{length, getD}
-use Rattle.meaning.specs.Credentials as M
-use Rattle.meaning.specs.Credentials.{_∩_, _⊙_, _⊗_, Statement, SetFits, covers, noCredential, credentialAt}
+use lib.Dec.{T}
+use lib.ListN.{getD}
+use Rattle.meaning.specs.Credentials.{Body, set, role, link, _∩_, _⊙_, _⊗_, covers, Credential, credentialAt}
 use Rattle.meaning.specs.Sequence.{Gives}
-use Rattle.meaning.proofs.ListLaws.{place-in}
-use Rattle.file.specs.Format.{N, field, roleNumber, meaningOf, roleOf, bodyOf, withBody, periodOf, credentialIn, credentials}
-use Rattle.file.specs.Refusals.{Outcome, numberOf}
-use Rattle.file.specs.Values.{headIn, foundIn, meantBy}
-use Rattle.file.specs.Conditions.{Accepted}
-use Rattle.file.specs.declared.Body as D
-use Rattle.file.specs.declared.Body.the-variants.{Set, Inclusion, Linked, Intersection, Union, Disjoint}
-use Rattle.file.specs.declared.Credential.{Credential}
-use Rattle.file.specs.declared.Found.{Found}
-use Rattle.file.specs.declared.Found.the-variants as F
-use Rattle.file.proofs.Body as B
+use Rattle.file.specs.Format.{N, credentials}
 use Rattle.file.proofs.Uses.{by-kind}
-use Rattle.file.proofs.Accepted.{accepted-fits, accepted-found}
-use Rattle.file.proofs.Credentials.{length-credentials, credential-at}
-use Rattle.file.proofs.Refusals.{head-read}
-use Rattle.file.proofs.Sizes.{headed}
-use Rattle.store.specs.Entries.{keyOf}
+use Rattle.policy.specs.Policy.{bodyBy, statedKind, statedSet, statedFirst, statedSecond, credentialOf, credentialsOf, Decoded, PolicyOf, statementIn}
+use Rattle.policy.specs.declared.Statement.{Statement}
+use Rattle.policy.proofs.Policies.{length-of, credential-of, decoded-fits}
+use Rattle.listing.specs.Sources.{Listing}
+use Rattle.store.specs.Entries.{keyOf, roleIn}
 use Rattle.deriving.specs.Gaining.{Keyed, Noted, Kept, Gains, Valid, Cites}
 use Rattle.deriving.proofs.Growing.{gains-none, gains-less}
 use Rattle.deriving.proofs.Entering.{noted-gains}
-use Rattle.searching.specs.Giving.{AtMinute, Fact}
-
-pub head-count : (f : List ℕ) → Accepted f → headIn f .credentials ≡ N f
-head-count f a = headed f (ap (λ (o : Outcome ℕ). numberOf o) (head-read 0 f (a .head))) .credentials
+use Rattle.searching.specs.Giving.{AtMinute, Some, Fact}
 
 not-true : (r : Bool) → not r ≡ false → T r
 not-true true q = tt
@@ -45,65 +28,64 @@ not-false : (r : Bool) → not r ≡ true → T r → ⊥
 not-false true q t = subst⁻¹ T q tt
 not-false false q t = t
 
-abbrev valueIn : M.Body → ℕ
-valueIn (M.set X) = X
-valueIn (M.role Bs) = 0
-valueIn (M.link Bs t) = 0
+abbrev valueIn : Body → ℕ
+valueIn (set X) = X
+valueIn (role Bs) = 0
+valueIn (link Bs t) = 0
 valueIn (Bs ∩ Ct) = 0
 valueIn (Bs ⊙ Ct) = 0
 valueIn (Bs ⊗ Ct) = 0
 
-module _ (f : List ℕ) (a : Accepted f) (at : ℕ) (l : at < N f) where
-  pub known : at < length (credentials f)
-  known = omega (arith, length-credentials f)
+abbrev IsSet : Body → Type 0
+IsSet (set X) = Unit {0}
+IsSet (role Bs) = ⊥
+IsSet (link Bs t) = ⊥
+IsSet (Bs ∩ Ct) = ⊥
+IsSet (Bs ⊙ Ct) = ⊥
+IsSet (Bs ⊗ Ct) = ⊥
 
-  module _ {o : Found} (e : o ≡ foundIn f at) where
-    pub read-some : o ≡ F.End → ⊥
-    read-some q =
-        let r = accepted-found f a at l .found in
-        let z : _≡_ {A = ℕ} 0 1 = cc in
-        omega arith
+-- a kind above 0 states no set
+no-fact : (X Bs Ct k : ℕ) → k ≤ 5 → (k ≡ 0 → ⊥) → IsSet (bodyBy k X Bs Ct) → ⊥
+no-fact X Bs Ct = by-kind (λ k. (k ≡ 0 → ⊥) → IsSet (bodyBy k X Bs Ct) → ⊥) (λ n s. n refl) (λ n s. s) (λ n s. s) (λ n s. s) (λ n s. s) (λ n s. s)
 
-    module _ {x : Credential} (q : o ≡ F.Credential x) where
-      value : accepted-found f a at l .value ≡ x
-      value = let r = accepted-found f a at l .found in cc
+module _ {p : List ℕ} {n : ℕ} (d : Decoded p n) where
+  module _ {at : ℕ} (l : at < n) where
+    is : credentialAt (credentialsOf p n) at ≡ credentialOf p at
+    is = credential-of p n at l
 
-      pub means : meantBy x ≡ credentialAt (credentials f) at
-      means = let r = accepted-found f a at l in ap meantBy (sym value) ∙ r .means ∙ sym (credential-at f at l)
+    module _ {m limit k : ℕ} {keys slots links notes : List ℕ} (kept : Kept (credentialsOf p n) m keys slots links notes k 1) (few : k ≤ limit) where
+      -- not valid at the minute
+      pub other-minute : {r : Bool} → r ≡ covers (credentialOf p at .period) m → not r ≡ true → Gains (credentialsOf p n) m limit keys notes k 1 (AtMinute (credentialsOf p n) m at Fact) keys slots links notes k
+      other-minute {r} e z =
+          gains-none kept few (λ key w. not-false r z (subst⁻¹ T e (subst (λ (c : Credential). T (covers (c .period) m)) is (w .valid))))
 
-      module _ (m : ℕ) {r : Bool} (k : r ≡ (leb (x .period .from) m && ltb m (x .period .until))) where
-        -- not valid at the minute
-        pub read-other : not r ≡ true → {P : Statement → ℕ → Type 0} {limit : ℕ} {keys slots links notes : List ℕ} {n top : ℕ} → Kept (credentials f) m keys slots links notes n top → n ≤ limit → Gains (credentials f) m limit keys notes n top (AtMinute (credentials f) m at P) keys slots links notes n
-        read-other z kept few =
+      module _ {s : Statement} (q : s ≡ statementIn p at) where
+        pub other-kind : (s .kind ≡ 0 → ⊥) → Gains (credentialsOf p n) m limit keys notes k 1 (AtMinute (credentialsOf p n) m at Fact) keys slots links notes k
+        other-kind ne =
             gains-none kept few
-            (λ key w. not-false r z (subst⁻¹ T k (subst⁻¹ (λ (c : M.Credential). T (covers (c .period) m)) means (w .valid))))
+            (λ key w. no-fact (statedSet (getD p (2 * at) 0)) (statedFirst (getD p (2 * at) 0)) (statedSecond (getD p (2 * at) 0)) (statedKind (getD p (2 * at) 0)) (d .fits at l .kind) (λ z. ne (ap (λ (x : Statement). x .kind) q ∙ z))
+            (subst (λ (c : Credential). IsSet (c .statement .body)) is (subst⁻¹ IsSet (w .holds .body) tt)))
 
-        pub read-valid : not r ≡ false → Valid (credentials f) m at
-        read-valid z = record { known = known; covered = subst (λ (c : M.Credential). T (covers (c .period) m)) means (subst T k (not-true r z)) }
-
-      -- the set that it states is entered
-      module _ {s : ℕ} (b : x .body ≡ Set s) where
-        states : credentialAt (credentials f) at .statement .body ≡ M.set s
-        states = ap (λ (c : M.Credential). c .statement .body) (sym means) ∙ ap meaningOf b
-
-        head : roleNumber (x .head) ≡ credentialAt (credentials f) at .statement .head
-        head = ap (λ (c : M.Credential). c .statement .head) means
-
-        pub head-low : roleNumber (x .head) < 1024
-        head-low = subst⁻¹ (λ (y : ℕ). y < 1024) head (accepted-fits f a (credentialAt (credentials f) at) (place-in noCredential (credentials f) at known) .0)
-
-        pub set-low : s < 2 ^ 32
-        set-low = subst SetFits states (accepted-fits f a (credentialAt (credentials f) at) (place-in noCredential (credentials f) at known) .1)
-
-        pub fact-new : {m limit n y : ℕ} {keys slots links notes keys′ slots′ links′ notes′ : List ℕ} {r : ℕ} → Valid (credentials f) m at → Kept (credentials f) m keys slots links notes n 1 → n ≤ limit → limit ≤ 1024 → y ≡ roleNumber (x .head) → Noted limit (keyOf y s) at 0 0 1 keys notes n keys′ slots′ links′ notes′ r → Gains (credentials f) m limit keys notes n 1 (AtMinute (credentials f) m at Fact) keys′ slots′ links′ notes′ r
-        fact-new {m} {limit} {n} {y} {keys} {slots} {links} {notes} {keys′} {slots′} {links′} {notes′} {r} v kept few small e w =
+        -- the set that it states is entered
+        pub fact-new : s .kind ≡ 0 → {r : Bool} → r ≡ covers (credentialOf p at .period) m → not r ≡ false → limit ≤ 1024 → {keys′ slots′ links′ notes′ : List ℕ} {u : ℕ} → Noted limit (keyOf (s .head) (s .set)) at 0 0 1 keys notes k keys′ slots′ links′ notes′ u → Gains (credentialsOf p n) m limit keys notes k 1 (AtMinute (credentialsOf p n) m at Fact) keys′ slots′ links′ notes′ u
+        fact-new kind {r} e z small {keys′} {slots′} {links′} {notes′} {u} w =
             gains-less (λ key y. this key (y .holds))
-            (noted-gains {a = 0} {b = 0} (accepted-fits f a) kept (few, small) v cites s set-low (subst⁻¹ (λ (e : M.Body). Gives (Keyed 0) (Keyed 0) e s) states refl)
-            (subst (λ (y : ℕ). Noted limit (keyOf y s) at 0 0 1 keys notes n keys′ slots′ links′ notes′ r) (e ∙ head) w))
+            (noted-gains {a = 0} {b = 0} (decoded-fits p n d) kept (few, small) valid cites X (omega arith) (subst⁻¹ (λ (e : Body). Gives (Keyed 0) (Keyed 0) e X) states refl)
+            (subst⁻¹ (λ (c : Credential). Noted limit (keyOf (c .statement .head) X) at 0 0 1 keys notes k keys′ slots′ links′ notes′ u) is
+            (subst (λ (x : Statement). Noted limit (keyOf (x .head) (x .set)) at 0 0 1 keys notes k keys′ slots′ links′ notes′ u) q w)))
           where
-            cites : Cites (credentialAt (credentials f) at .statement .body) keys notes n 0 0 0 0 1
+            X : ℕ
+            X = statedSet (getD p (2 * at) 0)
+
+            states : credentialAt (credentialsOf p n) at .statement .body ≡ set X
+            states = ap (λ (c : Credential). c .statement .body) is ∙ ap (λ (k : ℕ). bodyBy k X (statedFirst (getD p (2 * at) 0)) (statedSecond (getD p (2 * at) 0))) (sym (ap (λ (x : Statement). x .kind) q) ∙ kind)
+
+            valid : Valid (credentialsOf p n) m at
+            valid = record { known = omega (arith, length-of p n); covered = subst⁻¹ (λ (c : Credential). T (covers (c .period) m)) is (subst T e (not-true r z)) }
+
+            cites : Cites (credentialAt (credentialsOf p n) at .statement .body) keys notes k 0 0 0 0 1
             cites =
-                subst⁻¹ (λ (e : M.Body). Cites e keys notes n 0 0 0 0 1) states record {
+                subst⁻¹ (λ (e : Body). Cites e keys notes k 0 0 0 0 1) states record {
                   firsts = refl;
                   seconds = refl;
                   within = (omega arith, omega arith);
@@ -112,48 +94,19 @@ module _ (f : List ℕ) (a : Accepted f) (at : ℕ) (l : at < N f) where
                   level = refl;
                 }
 
-            this : (key : ℕ) → Fact (credentialAt (credentials f) at .statement) key → key ≡ keyOf (credentialAt (credentials f) at .statement .head) s
-            this key y = y .states ∙ ap (keyOf (credentialAt (credentials f) at .statement .head)) (ap valueIn (sym (y .body) ∙ states))
+            this : (key : ℕ) → Fact (credentialAt (credentialsOf p n) at .statement) key → key ≡ keyOf (credentialAt (credentialsOf p n) at .statement .head) X
+            this key y = y .states ∙ ap (keyOf (credentialAt (credentialsOf p n) at .statement .head)) (ap valueIn (sym (y .body) ∙ states))
 
--- no other body states a set
-nowhere : OneOf (1 ∷ 2 ∷ 3 ∷ 4 ∷ 5 ∷ []) 0 → ⊥
-nowhere (inl e) = omega arith
-nowhere (inr (inl e)) = omega arith
-nowhere (inr (inr (inl e))) = omega arith
-nowhere (inr (inr (inr (inl e)))) = omega arith
-nowhere (inr (inr (inr (inr e)))) = omega arith
+pub key-low : (p : List ℕ) (at : ℕ) {s : Statement} → s ≡ statementIn p at → roleIn (keyOf (s .head) (s .set)) < 1024
+key-low p at q = subst⁻¹ (λ (x : Statement). roleIn (keyOf (x .head) (x .set)) < 1024) q (omega arith)
 
-abbrev IsSet : M.Body → Type 0
-IsSet (M.set X) = Unit {0}
-IsSet (M.role Bs) = ⊥
-IsSet (M.link Bs t) = ⊥
-IsSet (Bs ∩ Ct) = ⊥
-IsSet (Bs ⊙ Ct) = ⊥
-IsSet (Bs ⊗ Ct) = ⊥
+-- ---- the credentials of a file
 
-no-set : (d : D.Body) → OneOf (1 ∷ 2 ∷ 3 ∷ 4 ∷ 5 ∷ []) (tagOf B.the-type d) → IsSet (meaningOf d) → ⊥
-no-set (Set x) o s = nowhere o
-no-set (Inclusion p) o s = s
-no-set (Linked p t) o s = s
-no-set (Intersection p q) o s = s
-no-set (Union p q) o s = s
-no-set (Disjoint p q) o s = s
+module _ {f p : List ℕ} {c : ℕ} (w : PolicyOf f p c) {m : ℕ} where
+  pub listing-of : {codes lists sources : List ℕ} {b h : ℕ} → Listing (credentialsOf p c) m codes lists sources b h → Listing (credentials f) m codes lists sources b h
+  listing-of {codes} {lists} {sources} {b} {h} l = subst (λ (cs : List Credential). Listing cs m codes lists sources b h) (w .means) l
 
-pub other-fact : (f : List ℕ) (at : ℕ) {m limit n top : ℕ} {keys slots links notes : List ℕ} (x : Credential) → Kept (credentials f) m keys slots links notes n top → n ≤ limit → meantBy x ≡ credentialAt (credentials f) at → OneOf (1 ∷ 2 ∷ 3 ∷ 4 ∷ 5 ∷ []) (tagOf B.the-type (x .body)) → Gains (credentials f) m limit keys notes n top (AtMinute (credentials f) m at Fact) keys slots links notes n
-other-fact f at x kept few e o =
-    gains-none kept few
-    (λ key w. no-set (x .body) o (subst⁻¹ (λ (c : M.Credential). IsSet (c .statement .body)) e (subst⁻¹ IsSet (w .holds .body) tt)))
-
--- a kind above 0 states no set
-module _ (g : ℕ → ℕ) (Ar : ℕ) (v : M.Period) where
-  no-fact : (k : ℕ) → k ≤ 5 → (k ≡ 0 → ⊥) → IsSet (withBody Ar v (bodyOf k (g 3) (g 4) (g 5) (g 6)) .statement .body) → ⊥
-  no-fact =
-      by-kind (λ k. (k ≡ 0 → ⊥) → IsSet (withBody Ar v (bodyOf k (g 3) (g 4) (g 5) (g 6)) .statement .body) → ⊥) (λ n s. n refl) (λ n s. s) (λ n s. s)
-      (λ n s. s) (λ n s. s) (λ n s. s)
-
-pub other-kind : (f : List ℕ) → Accepted f → (at : ℕ) → at < N f → (getD f (6 + 8 * at) 0 ≡ 0 → ⊥) → {m limit n top : ℕ} {keys slots links notes : List ℕ} → Kept (credentials f) m keys slots links notes n top → n ≤ limit → Gains (credentials f) m limit keys notes n top (AtMinute (credentials f) m at Fact) keys slots links notes n
-other-kind f a at l ne kept few =
-    gains-none kept few
-    (λ key w. no-fact (field f at) (roleNumber (roleOf (field f at 1) (field f at 2))) (periodOf f at) (field f at 0) (a .good at l .kind)
-    (λ z. ne (ap (λ (x : ℕ). getD f x 0) (omega arith) ∙ z))
-    (subst (λ (c : M.Credential). IsSet (c .statement .body)) (credential-at f at l) (subst⁻¹ IsSet (w .holds .body) tt)))
+  pub facts-of : {limit n top r : ℕ} {keys notes keys′ slots′ links′ notes′ : List ℕ} → Gains (credentialsOf p c) m limit keys notes n top (Some (credentialsOf p c) m c Fact) keys′ slots′ links′ notes′ r → Gains (credentials f) m limit keys notes n top (Some (credentials f) m (N f) Fact) keys′ slots′ links′ notes′ r
+  facts-of {limit} {n} {top} {r} {keys} {notes} {keys′} {slots′} {links′} {notes′} g =
+      subst (λ (cs : List Credential). Gains cs m limit keys notes n top (Some cs m (N f) Fact) keys′ slots′ links′ notes′ r) (w .means)
+      (subst (λ (x : ℕ). Gains (credentialsOf p c) m limit keys notes n top (Some (credentialsOf p c) m x Fact) keys′ slots′ links′ notes′ r) (w .count) g)

@@ -1,12 +1,11 @@
 // The search at one minute: all memberships, each with how it was derived, at its least level.
-// `by_family`, `fire` and `fire_all` do not read the file: the contracts name its credentials.
+// No function reads `file`: the contracts name its credentials.
 ghost use mathlib.Core.Path.{_≡_};
-ghost use mathlib.Core.Bool.{_&&_};
 ghost use Prim.Native.Nat.{_<_, _≤_};
-ghost use lib.Dec.{leb, ltb};
 ghost use lib.ListN.{length};
 ghost use Rattle.file.specs.Conditions.{Accepted};
-ghost use Rattle.file.specs.Format.{roleNumber, credentials, N};
+ghost use Rattle.file.specs.Format.{credentials, N};
+ghost use Rattle.policy.specs.Policy.{credentialsOf, Decoded, PolicyOf};
 ghost use Rattle.bodies.specs.Bodies.{FamilyOf};
 ghost use Rattle.listing.specs.Sources.{Listing};
 ghost use Rattle.deriving.specs.Gaining.{Kept, Gains};
@@ -14,28 +13,11 @@ ghost use Rattle.deriving.specs.Offers.{Ready, Adds};
 ghost use Rattle.searching.specs.Giving.{Fires, AtMinute, Some, Fact, ByFamily};
 ghost use Rattle.searching.specs.Searching.{Empty, Stated, Searched};
 use deriving::Turn;
-use file::Body;
-use file::Found;
-use file::Role;
 
 fn wide(x: u16) -> usize
     ensures { λ r. ⌜ r ≡ x ⌝ }
 {
     x as usize
-}
-
-fn role_number(r: Role) -> u64
-    ensures { λ n. ⌜ n ≡ roleNumber r ⌝ }
-{
-    let e = r.issuer;
-    let s = r.name;
-    (e.0 as u64) * 32 + (s.0 as u64)
-}
-
-fn covered(from: u32, until: u32, minute: u32) -> bool
-    ensures { λ r. ⌜ r ≡ (leb from minute && ltb minute until) ⌝ }
-{
-    (from <= minute) & (minute < until)
 }
 
 // From entry e by every body of a family.
@@ -143,43 +125,36 @@ fn fact_at(
     slots: &mut [u16],
     links: &mut [u16],
     notes: &mut [u16],
-    file: &[u8],
+    policy: &[u64; 512],
+    count: usize,
     minute: u32,
     limit: usize,
     n: usize,
     at: usize,
 ) -> usize
-    requires { ⌜ Accepted (now file) ⌝ ∗ ⌜ Kept (credentials (now file)) minute (now keys) (now slots) (now links) (now notes) n 1 ⌝ ∗ ⌜ (n ≤ limit) × (limit ≤ 1024) × (at < N (now file)) ⌝ }
-    ensures { λ r. ⌜ Gains (credentials (now (file .entry))) minute limit (now (keys .entry)) (now (notes .entry)) n 1 (AtMinute (credentials (now (file .entry))) minute at Fact) (now (keys .exit)) (now (slots .exit)) (now (links .exit)) (now (notes .exit)) r ⌝ }
+    requires { ⌜ Decoded (now policy) count ⌝ ∗ ⌜ Kept (credentialsOf (now policy) count) minute (now keys) (now slots) (now links) (now notes) n 1 ⌝ ∗ ⌜ (n ≤ limit) × (limit ≤ 1024) × (at < count) ⌝ }
+    ensures { λ r. ⌜ Gains (credentialsOf (now (policy .entry)) count) minute limit (now (keys .entry)) (now (notes .entry)) n 1 (AtMinute (credentialsOf (now (policy .entry)) count) minute at Fact) (now (keys .exit)) (now (slots .exit)) (now (links .exit)) (now (notes .exit)) r ⌝ }
 {
-    if file[6 + 8 * at] != 0 {
+    let s = policy::statement_at(policy, at);
+    if s.kind != 0 {
         return n;
     }
-    match file::read_credential(file, at) {
-        Found::Credential(x) => {
-            if !covered(x.period.from, x.period.until, minute) {
-                return n;
-            }
-            let body = x.body;
-            match body {
-                Body::Set(s) => deriving::derive(
-                    keys,
-                    slots,
-                    links,
-                    notes,
-                    n,
-                    limit,
-                    role_number(x.head) * 4294967296 + s as u64,
-                    at as u16,
-                    0,
-                    0,
-                    1,
-                ),
-                _ => n,
-            }
-        }
-        Found::End => n,
+    if !policy::valid_at(policy, at, minute) {
+        return n;
     }
+    deriving::derive(
+        keys,
+        slots,
+        links,
+        notes,
+        n,
+        limit,
+        s.head as u64 * 4294967296 + s.set as u64,
+        at as u16,
+        0,
+        0,
+        1,
+    )
 }
 
 // The sets that all credentials state.
@@ -188,19 +163,29 @@ fn facts(
     slots: &mut [u16],
     links: &mut [u16],
     notes: &mut [u16],
-    file: &[u8],
+    policy: &[u64; 512],
+    count: usize,
     minute: u32,
     limit: usize,
 ) -> usize
-    requires { ⌜ Accepted (now file) ⌝ ∗ ⌜ Kept (credentials (now file)) minute (now keys) (now slots) (now links) (now notes) 0 1 ⌝ ∗ ⌜ limit ≤ 1024 ⌝ }
-    ensures { λ r. ⌜ Gains (credentials (now (file .entry))) minute limit (now (keys .entry)) (now (notes .entry)) 0 1 (Some (credentials (now (file .entry))) minute (N (now (file .entry))) Fact) (now (keys .exit)) (now (slots .exit)) (now (links .exit)) (now (notes .exit)) r ⌝ }
+    requires { ⌜ Decoded (now policy) count ⌝ ∗ ⌜ Kept (credentialsOf (now policy) count) minute (now keys) (now slots) (now links) (now notes) 0 1 ⌝ ∗ ⌜ limit ≤ 1024 ⌝ }
+    ensures { λ r. ⌜ Gains (credentialsOf (now (policy .entry)) count) minute limit (now (keys .entry)) (now (notes .entry)) 0 1 (Some (credentialsOf (now (policy .entry)) count) minute count Fact) (now (keys .exit)) (now (slots .exit)) (now (links .exit)) (now (notes .exit)) r ⌝ }
 {
-    let h = file::read_head(file);
-    let count = h.credentials;
     let mut r = 0;
     let mut at = 0;
     while at < count {
-        r = fact_at(keys, slots, links, notes, file, minute, limit, r, at);
+        r = fact_at(
+            keys,
+            slots,
+            links,
+            notes,
+            policy,
+            count,
+            minute,
+            limit,
+            r,
+            at,
+        );
         if limit < r {
             return r;
         }
@@ -279,15 +264,25 @@ pub fn search(
     lists: &mut [u16],
     sources: &mut [u16],
     file: &[u8],
+    policy: &[u64; 512],
+    count: usize,
     minute: u32,
     limit: usize,
 ) -> usize
-    requires { ⌜ Accepted (now file) ⌝ ∗ ⌜ Empty (now keys) (now slots) (now links) (now notes) (now codes) (now lists) (now sources) ⌝ ∗ ⌜ limit ≤ 1024 ⌝ }
+    requires { ⌜ Accepted (now file) ⌝ ∗ ⌜ PolicyOf (now file) (now policy) count ⌝ ∗ ⌜ Empty (now keys) (now slots) (now links) (now notes) (now codes) (now lists) (now sources) ⌝ ∗ ⌜ limit ≤ 1024 ⌝ }
     ensures { λ r. ⌜ Searched (credentials (now (file .entry))) minute limit (now (keys .exit)) (now (slots .exit)) (now (links .exit)) (now (notes .exit)) r ⌝ }
 {
     let half = 512;
-    let c = listing::list_uses(codes, &mut keys[..half], lists, sources, file, minute);
-    let n = facts(keys, slots, links, notes, file, minute, limit);
+    let c = listing::list_uses(
+        codes,
+        &mut keys[..half],
+        lists,
+        sources,
+        policy,
+        count,
+        minute,
+    );
+    let n = facts(keys, slots, links, notes, policy, count, minute, limit);
     if limit < n {
         return n;
     }

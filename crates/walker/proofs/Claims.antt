@@ -9,10 +9,9 @@ use native.Mathlib.Omega.{arith}
 use borrow.Author.Tests.{ne-eqb}
 use denote.Ref.{RefT, now}
 use Rattle.file.specs.Refusals.{Outcome, numberOf, placeOf}
-use Rattle.file.specs.Format.{N, credentialIn}
+use Rattle.file.specs.Format.{N}
 use Rattle.file.specs.Values.{foundIn, refusalOf, Read}
 use Rattle.file.specs.Conditions.{Accepted, Refused}
-use Rattle.file.specs.declared.Credential.{Credential}
 use Rattle.file.specs.declared.Found.{Found}
 use Rattle.file.specs.declared.Found.the-variants.{End}
 use Rattle.file.proofs.Refusals.{refused-read, accepted-read}

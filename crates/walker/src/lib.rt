@@ -21,8 +21,9 @@ pub enum Entry {
 fn open(file: &[u8]) -> file::Refusal
     ensures { λ r. ⌜ r ≡ opened (now (file .entry)) ⌝ }
 {
-    let mut ends = [0u32; 64];
-    let summary = ends::survey(file, &mut ends);
+    let mut policy = policy::room();
+    let mut ends = ends::no_ends();
+    let summary = ends::survey(&mut policy, &mut ends, file);
     file::Refusal {
         number: summary.number,
         place: summary.place,

@@ -1,8 +1,6 @@
 -- `codec::decode32` meets its contract.
 use native.Mathlib.Omega.{arith}
-use Prim.Native.Nat.{_-_, _≤_}
-use mathlib.Core.Path.{_∙_}
-use lib.ListN.{length}
+use Prim.Native.Nat.{_-_}
 use Rattle.codec.proofs.Entries.{Decoded, part-length, decode-none, decode-more, decode-all}
 use borrow.Author.Needs.{needs}
 use Rattle.codec.proofs.decode32.Statement.{statement}

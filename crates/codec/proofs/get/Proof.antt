@@ -1,5 +1,4 @@
 -- `codec::get` meets its contract. The loop's invariant: the number is the entry that the bytes from i on are.
-use mathlib.Core.Path.{_∙_}
 use native.Mathlib.Omega.{arith}
 use Rattle.codec.proofs.Entries.{Read, read-none, read-more, read-all, eight-fit}
 use borrow.Author.Needs.{needs}

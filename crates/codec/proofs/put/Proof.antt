@@ -1,5 +1,5 @@
 -- `codec::put` meets its contract. The loop's invariant: the first i bytes with those of the rest are the bytes of the number.
-use mathlib.Core.Path.{_≡_, refl, _∙_}
+use mathlib.Core.Path.{_≡_, refl}
 use mathlib.Core.List.{_++_}
 use Prim.Native.Nat.{_-_, _≤_}
 use native.Mathlib.Omega.{arith}

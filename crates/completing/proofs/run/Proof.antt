@@ -13,79 +13,51 @@ use Rattle.completing.proofs.room_for_slots.Reads as room-for-slots-rea
 use Rattle.completing.proofs.room_for_valid.Reads as room-for-valid-reads
 use Rattle.completing.proofs.work.Reads as work-reads
 
--- src/lib.rt:155:20
+-- src/lib.rt:159:20
 room-for-keys-requires : tie.Need-room-for-keys-requires
 room-for-keys-requires c κs = search needs
 
--- src/lib.rt:156:21
+-- src/lib.rt:160:21
 room-for-keys-requires-2 : tie.Need-room-for-keys-requires-2
 room-for-keys-requires-2 c κs = search needs
 
--- src/lib.rt:157:21
+-- src/lib.rt:161:21
 room-for-slots-requires : tie.Need-room-for-slots-requires
 room-for-slots-requires c κs = search needs
 
--- src/lib.rt:158:21
+-- src/lib.rt:162:21
 room-for-links-requires : tie.Need-room-for-links-requires
 room-for-links-requires c κs = search needs
 
--- src/lib.rt:159:21
+-- src/lib.rt:163:21
 room-for-codes-requires : tie.Need-room-for-codes-requires
 room-for-codes-requires c κs = search needs
 
--- src/lib.rt:160:21
+-- src/lib.rt:164:21
 room-for-valid-requires : tie.Need-room-for-valid-requires
 room-for-valid-requires c κs = search needs
 
--- src/lib.rt:161:21
+-- src/lib.rt:165:21
 room-for-lists-requires : tie.Need-room-for-lists-requires
 room-for-lists-requires c κs = search needs
 
--- src/lib.rt:166:9
-slice-aggregate-work : tie.Need-slice-aggregate-work
-slice-aggregate-work c = search needs
-
--- src/lib.rt:167:9
-slice-aggregate-work-2 : tie.Need-slice-aggregate-work-2
-slice-aggregate-work-2 c = search needs
-
--- src/lib.rt:168:9
-slice-aggregate-work-3 : tie.Need-slice-aggregate-work-3
-slice-aggregate-work-3 c = search needs
-
--- src/lib.rt:169:9
-slice-aggregate-work-4 : tie.Need-slice-aggregate-work-4
-slice-aggregate-work-4 c = search needs
-
--- src/lib.rt:170:9
-slice-aggregate-work-5 : tie.Need-slice-aggregate-work-5
-slice-aggregate-work-5 c = search needs
-
--- src/lib.rt:171:9
-slice-aggregate-work-6 : tie.Need-slice-aggregate-work-6
-slice-aggregate-work-6 c = search needs
-
--- src/lib.rt:172:9
-slice-aggregate-work-7 : tie.Need-slice-aggregate-work-7
-slice-aggregate-work-7 c = search needs
-
--- src/lib.rt:162:5
+-- src/lib.rt:166:5
 work-requires : tie.Need-work-requires
-work-requires c κs = (c .before .before .before .before .before .before .before .before .before .before .before .before .before .before .before .before .before .before .before .before .before .before .pre .0, (blank (c .before .before .before .before .before .before .before .before .before .before .before .before .before .before .before .before .room-for-keys .ensures) (c .before .before .before .before .before .before .before .before .before .before .before .before .before .before .before .room-for-keys2 .ensures) (c .before .before .before .before .before .before .before .before .before .before .before .before .before .before .room-for-slots .ensures) (c .before .before .before .before .before .before .before .before .before .before .before .before .before .room-for-links .ensures) (c .before .before .before .before .before .before .before .before .before .before .before .before .room-for-codes .ensures) (c .before .before .before .before .before .before .before .before .before .before .before .room-for-valid .ensures) (c .before .before .before .before .before .before .before .before .before .before .room-for-lists .ensures), c .before .before .before .before .before .before .before .before .before .before .before .before .before .before .before .before .before .before .before .before .before .before .pre .1))
+work-requires c κs = (c .before .before .before .before .before .before .before .before .before .before .before .before .before .before .before .before .before .before .before .before .pre .0, (blank (c .before .before .before .before .before .before .before .before .before .before .before .before .before .before .before .before .room-for-keys .ensures) (c .before .before .before .before .before .before .before .before .before .before .before .before .before .before .before .room-for-keys2 .ensures) (c .before .before .before .before .before .before .before .before .before .before .before .before .before .before .room-for-slots .ensures) (c .before .before .before .before .before .before .before .before .before .before .before .before .before .room-for-links .ensures) (c .before .before .before .before .before .before .before .before .before .before .before .before .room-for-codes .ensures) (c .before .before .before .before .before .before .before .before .before .before .before .room-for-valid .ensures) (c .before .before .before .before .before .before .before .before .before .before .room-for-lists .ensures), c .before .before .before .before .before .before .before .before .before .before .before .before .before .before .before .before .before .before .before .before .pre .1))
 
--- src/lib.rt:144:1
+-- src/lib.rt:147:1
 same-length : tie.Need-same-length
-same-length c = search needs
+same-length c = c .before .before .before .before .before .before .work .kept .0
 
--- src/lib.rt:144:1
+-- src/lib.rt:147:1
 same-length-2 : tie.Need-same-length-2
-same-length-2 c = search needs
+same-length-2 c = c .before .before .before .before .before .before .work .kept .1 .0
 
--- src/lib.rt:144:1
+-- src/lib.rt:147:1
 same-length-3 : tie.Need-same-length-3
-same-length-3 c = search needs
+same-length-3 c = c .before .before .before .before .before .before .work .kept .1 .1 .0
 
--- src/lib.rt:144:1
+-- src/lib.rt:147:1
 returns : tie.Need-returns
 returns c = search needs
 
@@ -100,13 +72,6 @@ run-spec =
     room-for-codes-requires
     room-for-valid-requires
     room-for-lists-requires
-    slice-aggregate-work
-    slice-aggregate-work-2
-    slice-aggregate-work-3
-    slice-aggregate-work-4
-    slice-aggregate-work-5
-    slice-aggregate-work-6
-    slice-aggregate-work-7
     work-requires
     same-length
     same-length-2

@@ -56,19 +56,19 @@ derive-requires c κs = let p = c .before .before .before .before .before .befor
 
 -- src/lib.rt:90:9
 same-length : tie.Need-same-length
-same-length c = search needs
+same-length c = c .before .before .before .before .before .before .before .before .derive .kept .0
 
 -- src/lib.rt:90:9
 same-length-2 : tie.Need-same-length-2
-same-length-2 c = search needs
+same-length-2 c = c .before .before .before .before .before .before .before .before .derive .kept .1 .0
 
 -- src/lib.rt:90:9
 same-length-3 : tie.Need-same-length-3
-same-length-3 c = search needs
+same-length-3 c = c .before .before .before .before .before .before .before .before .derive .kept .1 .1 .0
 
 -- src/lib.rt:90:9
 same-length-4 : tie.Need-same-length-4
-same-length-4 c = search needs
+same-length-4 c = c .before .before .before .before .before .before .before .before .derive .kept .1 .1 .1 .0
 
 -- src/lib.rt:90:9
 returns : tie.Need-returns
@@ -82,19 +82,19 @@ derive-requires-2 c κs = let p = c .before .before .before .before .before .bef
 
 -- src/lib.rt:67:1
 same-length-5 : tie.Need-same-length-5
-same-length-5 c = search needs
+same-length-5 c = c .before .before .before .before .before .before .before .before .derive2 .kept .0
 
 -- src/lib.rt:67:1
 same-length-6 : tie.Need-same-length-6
-same-length-6 c = search needs
+same-length-6 c = c .before .before .before .before .before .before .before .before .derive2 .kept .1 .0
 
 -- src/lib.rt:67:1
 same-length-7 : tie.Need-same-length-7
-same-length-7 c = search needs
+same-length-7 c = c .before .before .before .before .before .before .before .before .derive2 .kept .1 .1 .0
 
 -- src/lib.rt:67:1
 same-length-8 : tie.Need-same-length-8
-same-length-8 c = search needs
+same-length-8 c = c .before .before .before .before .before .before .before .before .derive2 .kept .1 .1 .1 .0
 
 -- src/lib.rt:67:1
 returns-2 : tie.Need-returns-2

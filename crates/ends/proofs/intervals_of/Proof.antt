@@ -1,16 +1,16 @@
 -- `ends::intervals_of` meets its contract.
-use mathlib.Core.Path.{_∙_}
+use mathlib.Core.Path.{sym, _∙_}
 use native.Mathlib.Omega.{arith}
 use Rattle.ends.proofs.Answers.{survey-sizes, intervals-refused, intervals-beyond, intervals-done}
 use borrow.Author.Needs.{needs}
 use Rattle.ends.proofs.intervals_of.Statement.{statement}
 use Rattle.ends.proofs.intervals_of.Tie as tie
 
+room-requires : tie.Need-room-requires
+room-requires c κs = search needs
+
 no-ends-requires : tie.Need-no-ends-requires
 no-ends-requires c κs = search needs
-
-slice-aggregate-survey : tie.Need-slice-aggregate-survey
-slice-aggregate-survey c = search needs
 
 survey-requires : tie.Need-survey-requires
 survey-requires c κs = search needs
@@ -19,44 +19,49 @@ no-intervals-requires : tie.Need-no-intervals-requires
 no-intervals-requires c κs = search needs
 
 returns : tie.Need-returns
-returns c = let s = c .before .before .before .before .survey in
-    c .no-intervals .ensures ∙ intervals-refused (c .before .before .before .before .before .before .before .before .args .file .now) (s .last .1 .0) (s .result) (s .ensures) (c .before .before .before .before .before .before .before .before .args .spans) (c .before .if1 .taken)
+returns c = let s = c .before .before .before .survey in
+    let a = c .before .before .before .before .before .before .before .before .before .args in
+    c .no-intervals .ensures ∙ intervals-refused (a .file .now) (s .last .0) (s .last .1 .0) (s .result) (s .ensures) (a .spans) (c .before .if1 .taken)
 
 span-count-requires : tie.Need-span-count-requires
 span-count-requires c κs = search needs
 
 shr-if2 : tie.Need-shr-if2
-shr-if2 c = let s = c .before .before .before .before .survey in
-    let k = survey-sizes (c .before .before .before .before .before .before .before .before .args .file .now) (s .last .1 .0) (s .result) (s .ensures) (c .before .if1 .left) in
+shr-if2 c = let s = c .before .before .before .survey in
+    let k = survey-sizes (c .before .before .before .before .before .before .before .before .before .args .file .now) (s .last .0) (s .last .1 .0) (s .result) (s .ensures) (c .before .if1 .left) in
     omega (arith, c .span-count .ensures)
 
 no-intervals-requires-2 : tie.Need-no-intervals-requires-2
 no-intervals-requires-2 c κs = search needs
 
 returns-2 : tie.Need-returns-2
-returns-2 c = let s = c .before .before .before .before .before .before .survey in
+returns-2 c = let s = c .before .before .before .before .before .survey in
+    let a = c .before .before .before .before .before .before .before .before .before .before .before .args in
     c .no-intervals2 .ensures
-    ∙ intervals-beyond (c .before .before .before .before .before .before .before .before .before .before .args .file .now) (s .last .1 .0) (s .result) (s .ensures) (c .before .before .before .before .before .before .before .before .before .before .args .spans) (c .before .before .before .if1 .left) (c .before .before .span-count .ensures) (c .before .if2 .taken)
+    ∙ intervals-beyond (a .file .now) (s .last .0) (s .last .1 .0) (s .result) (s .ensures) (a .spans) (c .before .before .before .if1 .left) (c .before .before .span-count .ensures) (c .before .if2 .taken)
 
 slice-aggregate-join-spans : tie.Need-slice-aggregate-join-spans
-slice-aggregate-join-spans c = search needs
+slice-aggregate-join-spans c = let s = c .before .before .before .before .before .survey in
+    let k = survey-sizes (c .before .before .before .before .before .before .before .before .before .before .before .args .file .now) (s .last .0) (s .last .1 .0) (s .result) (s .ensures) (c .before .before .before .if1 .left) in
+    sym (k .1)
 
 join-spans-requires : tie.Need-join-spans-requires
-join-spans-requires c κs = let s = c .before .before .before .before .before .before .survey in
-    let k = survey-sizes (c .before .before .before .before .before .before .before .before .before .before .args .file .now) (s .last .1 .0) (s .result) (s .ensures) (c .before .before .before .if1 .left) in
+join-spans-requires c κs = let s = c .before .before .before .before .before .survey in
+    let k = survey-sizes (c .before .before .before .before .before .before .before .before .before .before .before .args .file .now) (s .last .0) (s .last .1 .0) (s .result) (s .ensures) (c .before .before .before .if1 .left) in
     omega (arith, c .before .before .span-count .ensures)
 
 returns-3 : tie.Need-returns-3
-returns-3 c = let s = c .before .before .before .before .before .before .before .survey in
+returns-3 c = let s = c .before .before .before .before .before .before .survey in
+    let a = c .before .before .before .before .before .before .before .before .before .before .before .before .args in
     c .join-spans .ensures
-    ∙ intervals-done (c .before .before .before .before .before .before .before .before .before .before .before .args .file .now) (s .last .1 .0) (s .result) (s .ensures) (c .before .before .before .before .before .before .before .before .before .before .before .args .spans) (c .before .before .before .before .if1 .left) (c .before .before .before .span-count .ensures) (c .before .before .if2 .left)
+    ∙ intervals-done (a .file .now) (s .last .0) (s .last .1 .0) (s .result) (s .ensures) (a .spans) (c .before .before .before .before .if1 .left) (c .before .before .before .span-count .ensures) (c .before .before .if2 .left)
 
 pub intervals-of-spec : {M : Type 1} → statement M
 intervals-of-spec =
     tie.close
     (tie.spec
+    room-requires
     no-ends-requires
-    slice-aggregate-survey
     survey-requires
     no-intervals-requires
     returns

@@ -1,5 +1,6 @@
 -- `listing::list_use` meets its contract.
 use Rattle.listing.proofs.Adding.{known-added, new-added}
+use lib.ListN.{length-set}
 use borrow.Author.Needs.{needs}
 use Rattle.listing.proofs.list_use.Statement.{statement}
 use Rattle.listing.proofs.list_use.Tie as tie
@@ -13,15 +14,15 @@ add-use-requires c κs = search needs
 
 -- src/lib.rt:42:9
 same-length : tie.Need-same-length
-same-length c = search needs
+same-length c = c .before .before .before .before .before .before .before .before .add-use .kept .0
 
 -- src/lib.rt:42:9
 same-length-2 : tie.Need-same-length-2
-same-length-2 c = search needs
+same-length-2 c = c .before .before .before .before .before .before .before .before .add-use .kept .1 .0
 
 -- src/lib.rt:42:9
 same-length-3 : tie.Need-same-length-3
-same-length-3 c = search needs
+same-length-3 c = c .before .before .before .before .before .before .before .before .add-use .kept .1 .1 .0
 
 -- src/lib.rt:42:9
 returns : tie.Need-returns
@@ -37,19 +38,19 @@ slice-write-sources c = search needs
 
 -- src/lib.rt:24:1
 same-length-4 : tie.Need-same-length-4
-same-length-4 c = search needs
+same-length-4 c = c .before .before .before .before .before .before .before .before .add-use .kept .0
 
 -- src/lib.rt:24:1
 same-length-5 : tie.Need-same-length-5
-same-length-5 c = search needs
+same-length-5 c = c .before .before .before .before .before .before .before .before .add-use .kept .1 .0
 
 -- src/lib.rt:24:1
 same-length-6 : tie.Need-same-length-6
-same-length-6 c = search needs
+same-length-6 c = c .before .before .before .before .before .before .before .before .add-use .kept .1 .1 .0
 
 -- src/lib.rt:24:1
 same-length-7 : tie.Need-same-length-7
-same-length-7 c = search needs
+same-length-7 c = simp length-set
 
 -- src/lib.rt:24:1
 returns-2 : tie.Need-returns-2

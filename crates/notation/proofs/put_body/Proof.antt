@@ -51,37 +51,37 @@ put-joined-requires-3 : tie.Need-put-joined-requires-3
 put-joined-requires-3 c κs = search needs
 
 same-length : tie.Need-same-length
-same-length c = search needs
+same-length c = c .before .before .put-decimal .kept .0
 
 returns : tie.Need-returns
 returns c = rw (c .before .before .before .before .before .body .given .1) (wider (omega arith) (c .before .before .put-decimal .ensures))
 
 same-length-2 : tie.Need-same-length-2
-same-length-2 c = search needs
+same-length-2 c = c .before .before .put-role .kept .0
 
 returns-2 : tie.Need-returns-2
 returns-2 c = rw (c .before .before .before .before .before .body2 .given .1) (wider (omega arith) (c .before .before .put-role .ensures))
 
 same-length-3 : tie.Need-same-length-3
-same-length-3 c = search needs
+same-length-3 c = c .before .before .put-linked .kept .0
 
 returns-3 : tie.Need-returns-3
 returns-3 c = rw (c .before .before .before .before .before .body3 .given .1) (wider (omega arith) (c .before .before .put-linked .ensures))
 
 same-length-4 : tie.Need-same-length-4
-same-length-4 c = search needs
+same-length-4 c = c .before .before .put-joined .kept .0
 
 returns-4 : tie.Need-returns-4
 returns-4 c = rw (c .before .before .before .before .before .before .body4 .given .1) (wider (omega arith) (c .before .before .put-joined .ensures))
 
 same-length-5 : tie.Need-same-length-5
-same-length-5 c = search needs
+same-length-5 c = c .before .before .put-joined2 .kept .0
 
 returns-5 : tie.Need-returns-5
 returns-5 c = rw (c .before .before .before .before .before .before .body5 .given .1) (wider (omega arith) (c .before .before .put-joined2 .ensures))
 
 same-length-6 : tie.Need-same-length-6
-same-length-6 c = search needs
+same-length-6 c = c .before .before .put-joined3 .kept .0
 
 returns-6 : tie.Need-returns-6
 returns-6 c = rw (c .before .before .before .before .before .before .body6 .given .1) (wider (omega arith) (c .before .before .put-joined3 .ensures))

@@ -1,3 +1,4 @@
+use mathlib.Core.Path.{_∙_}
 -- `put_joined` writes two roles with a sign between them.
 use Rattle.text.proofs.Putting.{_then_, wider}
 use native.Mathlib.Omega.{arith}
@@ -15,7 +16,7 @@ put-role-requires-2 : tie.Need-put-role-requires-2
 put-role-requires-2 c κs = search needs
 
 same-length : tie.Need-same-length
-same-length c = search needs
+same-length c = c .before .before .put-role2 .kept .0 ∙ c .before .before .before .before .before .before .put-bytes .kept .0 ∙ c .before .before .before .before .before .before .before .before .before .before .put-role .kept .0
 
 returns : tie.Need-returns
 returns c =

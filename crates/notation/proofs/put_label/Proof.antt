@@ -1,3 +1,4 @@
+use mathlib.Core.Path.{_∙_}
 -- `put_label` writes a number and two bytes.
 use Rattle.text.proofs.Putting.{_then_}
 use borrow.Author.Needs.{needs}
@@ -14,7 +15,7 @@ put-bytes-requires : tie.Need-put-bytes-requires
 put-bytes-requires c κs = search needs
 
 same-length : tie.Need-same-length
-same-length c = search needs
+same-length c = c .before .before .put-bytes .kept .0 ∙ c .before .before .before .before .before .before .before .put-field .kept .0
 
 returns : tie.Need-returns
 returns c =

@@ -1,3 +1,4 @@
+use mathlib.Core.Path.{_∙_}
 -- `put_linked` writes a role, a dot and a name.
 use Rattle.text.proofs.Putting.{_then_}
 use borrow.Author.Needs.{needs}
@@ -20,7 +21,7 @@ put-decimal-requires : tie.Need-put-decimal-requires
 put-decimal-requires c κs = search needs
 
 same-length : tie.Need-same-length
-same-length c = search needs
+same-length c = c .before .before .put-decimal .kept .0 ∙ c .before .before .before .before .before .before .before .put-bytes .kept .0 ∙ c .before .before .before .before .before .before .before .before .before .before .before .before .put-role .kept .0
 
 returns : tie.Need-returns
 returns c =

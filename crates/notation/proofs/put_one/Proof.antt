@@ -1,3 +1,4 @@
+use mathlib.Core.Path.{_∙_}
 -- `put_one` writes the word and one field.
 use Rattle.text.proofs.Putting.{_then_}
 use borrow.Author.Needs.{needs}
@@ -14,7 +15,7 @@ put-field-requires : tie.Need-put-field-requires
 put-field-requires c κs = search needs
 
 same-length : tie.Need-same-length
-same-length c = search needs
+same-length c = c .before .before .put-field .kept .0 ∙ c .before .before .before .before .before .before .put-bytes .kept .0
 
 returns : tie.Need-returns
 returns c =

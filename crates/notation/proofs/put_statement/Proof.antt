@@ -1,3 +1,4 @@
+use mathlib.Core.Path.{_∙_}
 -- `put_statement` writes a role, an arrow and a body.
 use Rattle.text.proofs.Putting.{_then_}
 use borrow.Author.Needs.{needs}
@@ -17,7 +18,7 @@ put-body-requires : tie.Need-put-body-requires
 put-body-requires c κs = search needs
 
 same-length : tie.Need-same-length
-same-length c = search needs
+same-length c = c .before .before .put-body .kept .0 ∙ c .before .before .before .before .before .before .put-bytes .kept .0 ∙ c .before .before .before .before .before .before .before .before .before .before .before .put-role .kept .0
 
 returns : tie.Need-returns
 returns c =

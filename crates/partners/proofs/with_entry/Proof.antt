@@ -35,19 +35,19 @@ give-new-requires c κs = let a = c .before .before .before .before .before .bef
     (p .0, (p .1 .0, ((p .1 .1 .0 .low, p .1 .1 .1 .0), offered-second (a .t) (a .codes .now) (a .body) (a .keys .now) (a .kind) (a .j) (p .1 .1 .0) (c .before .before .before .before .before .before .before .before .if1 .left) (p .1 .1 .1 .2) (c .before .before .before .before .before .if2 .taken))))
 
 same-length : tie.Need-same-length
-same-length c = search needs
+same-length c = c .before .before .before .before .before .before .before .before .before .before .give-new .kept .0
 
 same-length-2 : tie.Need-same-length-2
-same-length-2 c = search needs
+same-length-2 c = c .before .before .before .before .before .before .before .before .before .before .give-new .kept .1 .0
 
 same-length-3 : tie.Need-same-length-3
-same-length-3 c = search needs
+same-length-3 c = c .before .before .before .before .before .before .before .before .before .before .give-new .kept .1 .1 .0
 
 same-length-4 : tie.Need-same-length-4
-same-length-4 c = search needs
+same-length-4 c = c .before .before .before .before .before .before .before .before .before .before .give-new .kept .1 .1 .1 .0
 
 same-length-5 : tie.Need-same-length-5
-same-length-5 c = search needs
+same-length-5 c = c .before .before .before .before .before .before .before .before .before .before .give-new .kept .1 .1 .1 .1 .0
 
 returns-2 : tie.Need-returns-2
 returns-2 c = let a = c .before .before .before .before .before .before .before .before .before .before .before .before .before .before .before .before .before .before .before .before .before .before .before .before .before .before .before .before .before .args in progressed-less (entry-second (a .t) (a .codes .now) (a .body) (a .keys .now) (a .kind) (a .j) (c .before .before .before .before .before .before .before .before .before .before .before .before .before .before .before .before .if2 .taken)) (c .before .before .before .before .before .before .before .before .before .before .give-new .ensures)
@@ -61,19 +61,19 @@ give-new-requires-2 c κs = let a = c .before .before .before .before .before .b
     (p .0, (p .1 .0, ((p .1 .1 .0 .low, p .1 .1 .1 .0), offered-joined (a .t) (a .codes .now) (a .body) (a .keys .now) (a .kind) (a .j) (p .1 .1 .0) (c .before .before .before .before .before .before .before .before .before .if1 .left) (p .1 .1 .1 .2) (c .before .before .before .before .before .before .if2 .left) z)))
 
 same-length-6 : tie.Need-same-length-6
-same-length-6 c = search needs
+same-length-6 c = c .before .before .before .before .before .before .before .before .before .before .give-new2 .kept .0
 
 same-length-7 : tie.Need-same-length-7
-same-length-7 c = search needs
+same-length-7 c = c .before .before .before .before .before .before .before .before .before .before .give-new2 .kept .1 .0
 
 same-length-8 : tie.Need-same-length-8
-same-length-8 c = search needs
+same-length-8 c = c .before .before .before .before .before .before .before .before .before .before .give-new2 .kept .1 .1 .0
 
 same-length-9 : tie.Need-same-length-9
-same-length-9 c = search needs
+same-length-9 c = c .before .before .before .before .before .before .before .before .before .before .give-new2 .kept .1 .1 .1 .0
 
 same-length-10 : tie.Need-same-length-10
-same-length-10 c = search needs
+same-length-10 c = c .before .before .before .before .before .before .before .before .before .before .give-new2 .kept .1 .1 .1 .1 .0
 
 returns-4 : tie.Need-returns-4
 returns-4 c = let a = c .before .before .before .before .before .before .before .before .before .before .before .before .before .before .before .before .before .before .before .before .before .before .before .before .before .before .before .before .before .before .args in progressed-less (entry-joined (a .t) (a .codes .now) (a .body) (a .keys .now) (a .kind) (a .j) (c .before .before .before .before .before .before .before .before .before .before .before .before .before .before .before .before .before .if2 .left)) (c .before .before .before .before .before .before .before .before .before .before .give-new2 .ensures)

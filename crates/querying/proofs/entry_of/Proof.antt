@@ -1,5 +1,4 @@
 -- `querying::entry_of` meets its contract.
-use mathlib.Core.Path.{sym, _∙_}
 use native.Mathlib.Omega.{arith}
 use borrow.Author.Needs.{needs}
 use Rattle.querying.proofs.entry_of.Statement.{statement}

@@ -2,8 +2,8 @@
 use mathlib.Core.Path.{sym, _∙_}
 use borrow.Author.Tests.{not-true, not-false}
 use Rattle.completing.specs.Completing.{lent}
-use Rattle.rtt.proofs.Fitting.{table-sizes}
-use Rattle.rtt.proofs.Tables.{unfit-word, unfit-kept}
+use Rattle.complete_bytes.proofs.Fitting.{table-sizes}
+use Rattle.complete_bytes.proofs.Tables.{unfit-word, unfit-kept}
 use borrow.Author.Needs.{needs}
 use Rattle.rtt.proofs.rtt_complete.Statement.{statement}
 use Rattle.rtt.proofs.rtt_complete.Tie as tie
@@ -14,34 +14,27 @@ table-fits-requires c κs = search needs
 refuse-requires : tie.Need-refuse-requires
 refuse-requires c κs = search needs
 
-same-length : tie.Need-same-length
-same-length c = search needs
-
-same-length-2 : tie.Need-same-length-2
-same-length-2 c = search needs
-
-same-length-3 : tie.Need-same-length-3
-same-length-3 c = search needs
-
 returns : tie.Need-returns
-returns c = let b = lent (c .before .before .before .before .before .before .before .before .before .before .args .roles .now) (c .before .before .before .before .before .before .before .before .before .before .args .sets .now) (c .before .before .before .before .before .before .before .before .before .before .args .spans .now) in
+returns c = let a = c .before .before .before .before .before .before .before .args in
+    let b = lent (a .roles .now) (a .sets .now) (a .spans .now) in
     let e = sym (c .before .before .table-fits .ensures) ∙ not-true _ (c .before .if1 .taken) in
-    (c .refuse .ensures ∙ unfit-word (c .before .before .before .before .before .before .before .before .before .before .args .file .now) b e, unfit-kept (c .before .before .before .before .before .before .before .before .before .before .args .file .now) b e)
+    (c .refuse .ensures ∙ unfit-word (a .file .now) b e, unfit-kept (a .file .now) b e)
 
 complete-requires : tie.Need-complete-requires
-complete-requires c κs = table-sizes (lent (c .before .before .before .before .before .before .before .before .before .before .before .before .args .roles .now) (c .before .before .before .before .before .before .before .before .before .before .before .before .args .sets .now) (c .before .before .before .before .before .before .before .before .before .before .before .before .args .spans .now)) (sym (c .before .before .before .before .table-fits .ensures) ∙ not-false _ (c .before .before .before .if1 .left))
+complete-requires c κs = let a = c .before .before .before .before .before .before .before .before .before .args in
+    table-sizes (lent (a .roles .now) (a .sets .now) (a .spans .now)) (sym (c .before .before .before .before .table-fits .ensures) ∙ not-false _ (c .before .before .before .if1 .left))
 
-same-length-4 : tie.Need-same-length-4
-same-length-4 c = search needs
+same-length : tie.Need-same-length
+same-length c = c .before .before .before .before .before .before .complete .kept .0
 
-same-length-5 : tie.Need-same-length-5
-same-length-5 c = search needs
+same-length-2 : tie.Need-same-length-2
+same-length-2 c = c .before .before .before .before .before .before .complete .kept .1 .0
 
-same-length-6 : tie.Need-same-length-6
-same-length-6 c = search needs
+same-length-3 : tie.Need-same-length-3
+same-length-3 c = c .before .before .before .before .before .before .complete .kept .1 .1 .0
 
 returns-2 : tie.Need-returns-2
-returns-2 c = search needs
+returns-2 c = c .before .before .before .before .before .before .complete .ensures
 
 pub rtt-complete-spec : {M : Type 1} → statement M
 rtt-complete-spec =
@@ -49,12 +42,9 @@ rtt-complete-spec =
     (tie.spec
     table-fits-requires
     refuse-requires
+    returns
+    complete-requires
     same-length
     same-length-2
     same-length-3
-    returns
-    complete-requires
-    same-length-4
-    same-length-5
-    same-length-6
     returns-2)

@@ -92,7 +92,7 @@ same-length-5 : tie.Need-same-length-5
 same-length-5 c = search needs
 
 same-length-6 : tie.Need-same-length-6
-same-length-6 c = search needs
+same-length-6 c = c .before .before .link .kept .0
 
 returns-2 : tie.Need-returns-2
 returns-2 c = record { placed = inr (refl, refl, c .before .before .link .ensures, refl) }

@@ -1,3 +1,4 @@
+use mathlib.Core.Path.{_∙_}
 -- `rules::add_use` meets its contract. First the body is placed, which leaves the uses as they were, then the head.
 use mathlib.Core.Logic.{⊎-elim}
 use mathlib.Core.List.{List}
@@ -54,13 +55,13 @@ add-t30 : tie.Need-add-t30
 add-t30 c = search needs
 
 same-length : tie.Need-same-length
-same-length c = search needs
+same-length c = c .before .before .before .before .before .before .before .add-head .kept .0 ∙ c .before .before .before .before .before .before .before .before .before .before .before .before .before .before .before .body-at .kept .0
 
 same-length-2 : tie.Need-same-length-2
-same-length-2 c = search needs
+same-length-2 c = c .before .before .before .before .before .before .before .add-head .kept .1 .0
 
 same-length-3 : tie.Need-same-length-3
-same-length-3 c = search needs
+same-length-3 c = c .before .before .before .before .before .before .before .add-head .kept .1 .1 .0 ∙ c .before .before .before .before .before .before .before .before .before .before .before .before .before .before .before .body-at .kept .1 .0
 
 returns : tie.Need-returns
 returns c =
@@ -70,13 +71,13 @@ returns c =
     rw (d .new (c .if1 .taken)) at a
 
 same-length-4 : tie.Need-same-length-4
-same-length-4 c = search needs
+same-length-4 c = c .before .before .before .before .before .before .before .add-head .kept .0 ∙ c .before .before .before .before .before .before .before .before .before .before .before .before .before .before .before .body-at .kept .0
 
 same-length-5 : tie.Need-same-length-5
-same-length-5 c = search needs
+same-length-5 c = c .before .before .before .before .before .before .before .add-head .kept .1 .0
 
 same-length-6 : tie.Need-same-length-6
-same-length-6 c = search needs
+same-length-6 c = c .before .before .before .before .before .before .before .add-head .kept .1 .1 .0 ∙ c .before .before .before .before .before .before .before .before .before .before .before .before .before .before .before .body-at .kept .1 .0
 
 returns-2 : tie.Need-returns-2
 returns-2 c =

@@ -57,7 +57,7 @@ same-length-3 : tie.Need-same-length-3
 same-length-3 c = search needs
 
 same-length-4 : tie.Need-same-length-4
-same-length-4 c = search needs
+same-length-4 c = c .before .before .link .kept .0
 
 returns-2 : tie.Need-returns-2
 returns-2 c = record { placed = inr (refl, refl, c .before .before .link .ensures) }

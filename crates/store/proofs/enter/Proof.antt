@@ -50,15 +50,15 @@ add-result c = search needs
 
 -- src/lib.rt:104:9
 same-length-3 : tie.Need-same-length-3
-same-length-3 c = search needs
+same-length-3 c = c .before .before .before .before .before .before .append .kept .0
 
 -- src/lib.rt:104:9
 same-length-4 : tie.Need-same-length-4
-same-length-4 c = search needs
+same-length-4 c = c .before .before .before .before .before .before .append .kept .1 .0
 
 -- src/lib.rt:104:9
 same-length-5 : tie.Need-same-length-5
-same-length-5 c = search needs
+same-length-5 c = c .before .before .before .before .before .before .append .kept .1 .1 .0
 
 -- src/lib.rt:104:9
 returns-2 : tie.Need-returns-2

@@ -10,7 +10,7 @@ put-number-requires : tie.Need-put-number-requires
 put-number-requires c κs = omega (arith, decimal-length (c .before .before .args .x))
 
 same-length : tie.Need-same-length
-same-length c = search needs
+same-length c = c .before .before .put-number .kept .0
 
 returns : tie.Need-returns
 returns c =

@@ -1,3 +1,4 @@
+use mathlib.Core.Path.{_∙_}
 -- `put_field` writes at most ten digits and one byte.
 use Rattle.text.proofs.Putting.{_then_}
 use borrow.Author.Needs.{needs}
@@ -11,7 +12,7 @@ put-byte-requires : tie.Need-put-byte-requires
 put-byte-requires c κs = search needs
 
 same-length : tie.Need-same-length
-same-length c = search needs
+same-length c = c .before .before .put-byte .kept .0 ∙ c .before .before .before .before .before .before .put-decimal .kept .0
 
 returns : tie.Need-returns
 returns c = c .before .before .before .before .before .before .put-decimal .ensures then c .before .before .put-byte .ensures

@@ -1,0 +1,31 @@
+-- `check_bytes::number_of` meets its contract.
+use mathlib.Core.Path.{sym, ap, _∙_}
+use Rattle.checking.specs.declared.Checked.{Checked}
+use Rattle.checking.specs.Checking.{says}
+use Rattle.replies.specs.Interface.{word}
+use borrow.Author.Needs.{needs}
+use Rattle.check_bytes.proofs.number_of.Statement.{statement}
+use Rattle.check_bytes.proofs.number_of.Tie as tie
+
+enum-known-answer : tie.Need-enum-known-answer
+enum-known-answer c = search needs
+
+cast-result : tie.Need-cast-result
+cast-result c = search needs
+
+enum-known-answer-2 : tie.Need-enum-known-answer-2
+enum-known-answer-2 c = search needs
+
+refusal-requires : tie.Need-refusal-requires
+refusal-requires c κs = search needs
+
+returns : tie.Need-returns
+returns c = search needs
+
+returns-2 : tie.Need-returns-2
+returns-2 c = c .refusal .ensures ∙ sym (ap (λ (x : Checked). word (λ n. n) (says x)) (c .before .before .answer2 .given .1))
+
+pub number-of-spec : {M : Type 1} → statement M
+number-of-spec =
+    tie.close
+    (tie.spec enum-known-answer cast-result enum-known-answer-2 refusal-requires returns returns-2)

@@ -1,0 +1,29 @@
+-- Completing on bytes (document 01): lists of bytes in place of the lent lists.
+use mathlib.Core.Bool.{Bool, _&&_}
+use mathlib.Core.List.{List}
+use Prim.Native.Nat.{ℕ}
+use Rattle.meaning.specs.Lists.{if}
+use Rattle.meaning.specs.Table.{table}
+use Rattle.file.specs.Refusals.{Outcome}
+use Rattle.file.specs.Format.{credentials}
+use Rattle.writing.specs.Columns.{column}
+use Rattle.completing.specs.Completing.{Lent, lent, replyTo, left, Ending, ending}
+use Rattle.codec.specs.Bytes.{bytesOf, entries, whole}
+use Rattle.replies.specs.Interface.{notWhole, entryCount}
+
+abbrev pub wholeLent : Lent → Bool
+wholeLent b = whole 4 (b .roles) && whole 4 (b .sets) && whole 8 (b .spans)
+
+abbrev pub lentIn : Lent → Lent
+lentIn b = lent (entries 4 (b .roles)) (entries 4 (b .sets)) (entries 8 (b .spans))
+
+unfoldable pub completeReply : List ℕ → Lent → Outcome ℕ
+completeReply f b = if (wholeLent b) (replyTo f (lentIn b)) (notWhole f 0)
+
+-- the reply and the bytes as the call leaves them
+unfoldable pub completeBytes : List ℕ → Lent → Ending
+completeBytes f b =
+    ending (completeReply f b)
+    (left (completeReply f b) (b .roles) (bytesOf 4 (column (λ x. x .role) (entryCount (b .roles)) (table (credentials f)))))
+    (left (completeReply f b) (b .sets) (bytesOf 4 (column (λ x. x .set) (entryCount (b .roles)) (table (credentials f)))))
+    (left (completeReply f b) (b .spans) (bytesOf 8 (column (λ x. x .spans) (entryCount (b .roles)) (table (credentials f)))))

@@ -1,0 +1,5 @@
+mod Bytes
+mod Words
+mod Storing
+mod Deciding
+pub mod Policies

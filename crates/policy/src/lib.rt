@@ -1,0 +1,217 @@
+// A file that passes 1 to 7, decoded once: for each credential two numbers, its statement and its period.
+ghost use mathlib.Core.Path.{_≡_};
+ghost use Prim.Native.Nat.{_+_, _<_, _≤_};
+ghost use lib.ListN.{length};
+ghost use Rattle.meaning.specs.Credentials.{_·_, covers};
+ghost use Rattle.file.specs.Format.{N, byte};
+ghost use Rattle.file.specs.Reading.{credentialRows};
+ghost use Rattle.file.specs.Values.{Headed, firstNumber};
+ghost use Rattle.policy.specs.Policy.{credentialOf, statementIn, periodIn, Decodes};
+ghost use Rattle.policy.specs.Steps.{bodyAt, wordIn, periodNumber, stored, OneDecoded, AllDecoded};
+use file::Entity;
+use file::Head;
+use file::Period;
+use file::Refusal;
+use file::RoleName;
+
+// Number and place of the refusal, or 0, 0 and the sizes of a file that passes 1 to 7.
+pub struct Sizes {
+    pub number: u32,
+    pub place: u32,
+    pub entities: u32,
+    pub names: u32,
+    pub credentials: usize,
+}
+
+// A statement's kind and head, and what the kind makes its body of: kind 0 the set, every other the first role, kinds from 2 on also the second role or the name.
+// What the kind does not use is not read.
+pub struct Statement {
+    pub kind: u32,
+    pub head: u32,
+    pub set: u32,
+    pub first: u32,
+    pub second: u32,
+}
+
+// Room for a policy.
+pub fn room() -> [u64; 512]
+    ensures { λ r. ⌜ length r ≡ 512 ⌝ }
+{
+    [0; 512]
+}
+
+// Refusals 1 to 7; where there is none, the policy then has the file's credentials.
+pub fn decode(policy: &mut [u64; 512], file: &[u8]) -> Sizes
+    ensures { λ r. ⌜ Decodes (now (file .entry)) (now (policy .exit)) r ⌝ }
+{
+    let h = file::read_head(file);
+    if h.number != 0 {
+        return refused(h.number, 0);
+    }
+    let j = decode_all(policy, file, h);
+    if j.number != 0 {
+        return refused(j.number, j.place);
+    }
+    Sizes {
+        number: 0,
+        place: 0,
+        entities: h.entities,
+        names: h.names,
+        credentials: h.credentials,
+    }
+}
+
+// The statement at position i.
+pub fn statement_at(policy: &[u64; 512], i: usize) -> Statement
+    requires { ⌜ i < 256 ⌝ }
+    ensures { λ r. ⌜ r ≡ statementIn (now (policy .entry)) i ⌝ }
+{
+    let w = whole(policy[2 * i]);
+    let body = w % 4294967296;
+    Statement {
+        kind: (w / 4398046511104) as u32,
+        head: (w / 4294967296 % 1024) as u32,
+        set: body as u32,
+        first: (body / 1024) as u32,
+        second: (body % 1024) as u32,
+    }
+}
+
+// The period at position i.
+pub fn period_at(policy: &[u64; 512], i: usize) -> Period
+    requires { ⌜ i < 256 ⌝ }
+    ensures { λ r. ⌜ r ≡ periodIn (now (policy .entry)) i ⌝ }
+{
+    let v = whole(policy[2 * i + 1]);
+    Period {
+        from: (v / 4294967296) as u32,
+        until: (v % 4294967296) as u32,
+    }
+}
+
+// Whether the credential at position i is valid at the minute.
+pub fn valid_at(policy: &[u64; 512], i: usize, minute: u32) -> bool
+    requires { ⌜ i < 256 ⌝ }
+    ensures { λ r. ⌜ r ≡ covers (credentialOf (now (policy .entry)) i .period) minute ⌝ }
+{
+    let v = period_at(policy, i);
+    (v.from <= minute) & (minute < v.until)
+}
+
+// A refusal, and no sizes.
+fn refused(number: u32, place: u32) -> Sizes
+    ensures { λ r. ⌜ r ≡ record { number = number; place = place; entities = 0; names = 0; credentials = 0 } ⌝ }
+{
+    Sizes {
+        number,
+        place,
+        entities: 0,
+        names: 0,
+        credentials: 0,
+    }
+}
+
+// The number itself; a number of the list is below 2 ^ 64.
+fn whole(x: u64) -> u64
+    ensures { λ r. ⌜ (r ≡ x) × (x < 18446744073709551616) ⌝ }
+{
+    x
+}
+
+fn wide(x: u8) -> u64
+    ensures { λ r. ⌜ (r ≡ x) × (x < 256) ⌝ }
+{
+    x as u64
+}
+
+// A role as a number.
+fn role_number(issuer: Entity, name: RoleName) -> u64
+    ensures { λ r. ⌜ (r ≡ issuer .0 · name .0) × (r < 8448) ⌝ }
+{
+    wide(issuer.0) * 32 + wide(name.0)
+}
+
+// The role of two bytes as a number.
+fn role_at(file: &[u8], p: usize) -> u64
+    requires { ⌜ p + 2 ≤ length (now file) ⌝ }
+    ensures { λ r. ⌜ (r ≡ byte (now (file .entry)) p · byte (now (file .entry)) (p + 1)) × (r < 8448) ⌝ }
+{
+    role_number(Entity(file[p]), RoleName(file[p + 1]))
+}
+
+// The body of b, s, c, t as a number. Bytes that the kind does not use are zero.
+fn body_at(file: &[u8], kind: u64, p: usize) -> u64
+    requires { ⌜ (p + 4 ≤ length (now file)) × (byte (now file) p < 32) ⌝ }
+    ensures { λ r. ⌜ (r ≡ bodyAt (now (file .entry)) kind p) × (r < 4294967296) ⌝ }
+{
+    if kind == 0 {
+        return 1u64 << wide(file[p]);
+    }
+    role_at(file, p) * 1024 + role_at(file, p + 2)
+}
+
+// The statement of credential i as a number.
+fn word_at(file: &[u8], h: Head, i: usize) -> u64
+    requires { ⌜ (Headed (now file) h) × (i < N (now file)) × (firstNumber (credentialRows (now file) i) ≡ 0) ⌝ }
+    ensures { λ r. ⌜ r ≡ wordIn (now (file .entry)) i ⌝ }
+{
+    let at = 6 + 8 * i;
+    let kind = wide(file[at]);
+    let head = role_at(file, at + 1);
+    let body = body_at(file, kind, at + 3);
+    kind * 4398046511104 + head * 4294967296 + body
+}
+
+// A period as a number.
+fn period_word(v: Period) -> u64
+    ensures { λ r. ⌜ (r ≡ periodNumber (v .from) (v .until)) × (v .until < 4294967296) ⌝ }
+{
+    v.from as u64 * 4294967296 + v.until as u64
+}
+
+// Puts the numbers of credential i into the list, lent as a slice, whose length is known.
+fn put(policy: &mut [u64], i: usize, statement: u64, period: u64)
+    requires { ⌜ (length (now policy) ≡ 512) × (i < 256) ⌝ }
+    ensures { λ _. ⌜ now (policy .exit) ≡ stored (now (policy .entry)) i statement period ⌝ }
+{
+    policy[2 * i] = statement;
+    policy[2 * i + 1] = period;
+}
+
+// Stores credential i and returns 0, or returns the number of the first of refusals 4 to 7 that it has.
+fn decode_one(policy: &mut [u64; 512], file: &[u8], h: Head, i: usize) -> u32
+    requires { ⌜ (Headed (now file) h) × (i < N (now file)) ⌝ }
+    ensures { λ r. ⌜ OneDecoded (now (file .entry)) i (now (policy .entry)) (now (policy .exit)) r ⌝ }
+{
+    let number = file::fault(file, h, i);
+    if number != 0 {
+        return number;
+    }
+    let statement = word_at(file, h, i);
+    let period = period_word(file::read_period(file, h, i));
+    put(policy, i, statement, period);
+    0
+}
+
+// Stores all credentials, in file order, up to the first that is refused.
+fn decode_all(policy: &mut [u64; 512], file: &[u8], h: Head) -> Refusal
+    requires { ⌜ Headed (now file) h ⌝ }
+    ensures { λ r. ⌜ AllDecoded (now (file .entry)) (now (policy .exit)) r ⌝ }
+{
+    let n = h.credentials;
+    let mut i = 0;
+    while i < n {
+        let number = decode_one(policy, file, h, i);
+        if number != 0 {
+            return Refusal {
+                number,
+                place: i as u32,
+            };
+        }
+        i += 1;
+    }
+    Refusal {
+        number: 0,
+        place: 0,
+    }
+}

@@ -1,0 +1,4 @@
+pub mod Counting
+pub mod Links
+pub mod Deciding
+pub mod Judging
