@@ -16,7 +16,8 @@ use Rattle.meaning.specs.Proofs.{Step, Shown, nothing, citesFirst, citesSecond,
 use Rattle.store.specs.Entries.{keyOf, roleIn, setIn}
 use Rattle.store.proofs.Keys.{key-of-parts}
 use Rattle.file.proofs.Credentials.{getD-map-lt}
-use Rattle.derivation.specs.Derivation.{Citable, firstBy, secondBy, Holds, word, stepOf, levelOf, shownOf, Derived, Derivation, membershipAt, HandedOut, words}
+use Rattle.derivation.specs.Derivation.{Citable, firstBy, secondBy, Holds, stepOf, shownOf, Derived, Derivation, membershipAt, HandedOut, words}
+use Rattle.store.specs.Notes.{word, levelOf}
 use Rattle.derivation.proofs.Positions.{map-below-length, map-below-at, steps-keep, proof-to}
 use Rattle.answering.specs.Answering.{Citing, Answered}
 use Rattle.answering.specs.Marks.{Cites, Rests, itself, byCited, Marked}

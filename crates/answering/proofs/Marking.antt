@@ -11,7 +11,7 @@ use lib.ListN.{length, getD, set, replicate, length-set}
 use lib.Seq.{getD-set-same, getD-set-other}
 use Rattle.meaning.specs.Lists.{if}
 use Rattle.store.proofs.Chains.{equal-or-not}
-use Rattle.derivation.specs.Derivation.{word}
+use Rattle.store.specs.Notes.{word}
 use Rattle.answering.specs.Answering.{Citing}
 use Rattle.answering.specs.Marks.{Cites, Rests, itself, byCited, markedBy, spreadBy, Marked}
 

@@ -12,7 +12,7 @@ use lib.ListN.{length, getD, set, take, length-set, length-append, length-map}
 use lib.Seq.{getD-set-same, getD-set-other, take-suc-set}
 use Rattle.meaning.specs.Proofs.{Step}
 use Rattle.store.proofs.Chains.{last-or-below}
-use Rattle.derivation.specs.Derivation.{word}
+use Rattle.store.specs.Notes.{word}
 use Rattle.answering.specs.Answering.{Citing}
 use Rattle.answering.specs.Marks.{Marked}
 use Rattle.answering.specs.Steps.{kept, number, citedStep, citedIn, stepFrom, stepsBelow, Held, Turn}

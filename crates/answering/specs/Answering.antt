@@ -6,7 +6,8 @@ use lib.ListN.{length, getD}
 use Rattle.meaning.specs.Credentials.{Credential}
 use Rattle.meaning.specs.Proofs.{Step}
 use Rattle.store.specs.Entries.{roleIn, setIn}
-use Rattle.derivation.specs.Derivation.{word, levelOf, Derivation, HandedOut, words}
+use Rattle.derivation.specs.Derivation.{Derivation, HandedOut, words}
+use Rattle.store.specs.Notes.{word, levelOf}
 
 -- each of n entries cites entries before it
 abbrev pub Citing : List ℕ → ℕ → Type 0

@@ -6,7 +6,7 @@ use Prim.Native.Nat.{ℕ, suc, _-_, _≤_, _<_}
 use lib.Dec.{ltb}
 use lib.ListN.{length, getD, set}
 use Rattle.meaning.specs.Lists.{if}
-use Rattle.derivation.specs.Derivation.{word}
+use Rattle.store.specs.Notes.{word}
 
 abbrev pub Cites : List ℕ → ℕ → ℕ → Type 0
 Cites notes i f = (word notes i 1 ≡ suc f) ⊎ (word notes i 2 ≡ suc f)

@@ -8,7 +8,7 @@ use lib.ListN.{length, getD, set, take, replicate}
 use Rattle.meaning.specs.Lists.{if, only}
 use Rattle.meaning.specs.Proofs.{Step}
 use Rattle.store.specs.Entries.{setIn}
-use Rattle.derivation.specs.Derivation.{word}
+use Rattle.store.specs.Notes.{word}
 
 -- the marked entries below i
 abbrev pub kept : List ℕ → ℕ → List ℕ

@@ -3,7 +3,7 @@ ghost use mathlib.Core.Path.{_≡_};
 ghost use Prim.Native.Nat.{suc, _≤_, _<_};
 ghost use lib.Dec.{ltb};
 ghost use lib.ListN.{length, getD};
-ghost use Rattle.derivation.specs.Derivation.{word};
+ghost use Rattle.store.specs.Notes.{word};
 ghost use Rattle.answering.specs.Answering.{Citing, Answered};
 ghost use Rattle.answering.specs.Marks.{markedBy, spreadBy, Marked};
 ghost use Rattle.answering.specs.Steps.{citedIn, stepsBelow, Held, Turn, upTo};

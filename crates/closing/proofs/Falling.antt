@@ -113,12 +113,12 @@ left-given m m′ x ne l k = go (below-or-not m x)
     go (inr a) = omega (arith, left-within m x a, left-within m′ m l)
 
 -- entry i gave: its spans are done, and no entry has lost any
-module _ {keys spans keys′ spans′ : List ℕ} {n r : ℕ} (g : Grown keys spans n keys′ spans′ r) (done : List ℕ) (fresh : (j : ℕ) → n ≤ j → getD done j 0 ≡ 0) (i limit : ℕ) (low : i < n) (few : n ≤ limit) (room : length done ≡ limit) (other : getD done i 0 ≡ getD spans i 0 → ⊥) (small : getD spans i 0 < 18446744073709551616) where
+module _ {keys spans keys′ spans′ : List ℕ} {n r : ℕ} (g : Grown keys spans n keys′ spans′ r) (done : List ℕ) (fresh : (j : ℕ) → n ≤ j → getD done j 0 ≡ 0) (i limit : ℕ) (low : i < n) (few : n ≤ limit) (room : i < length done) (other : getD done i 0 ≡ getD spans i 0 → ⊥) (small : getD spans i 0 < 18446744073709551616) where
   more : (j : ℕ) → j < n → getD spans j 0 ≤ getD spans′ j 0
   more j l = bits-le (getD spans j 0) (getD spans′ j 0) (λ s. g .kept j s l)
 
   set-here : getD (set done i (getD spans i 0)) i 0 ≡ getD spans i 0
-  set-here = getD-set-same done i (getD spans i 0) 0 (omega arith)
+  set-here = getD-set-same done i (getD spans i 0) 0 room
 
   here : left (getD spans′ i 0) (getD (set done i (getD spans i 0)) i 0) < left (getD spans i 0) (getD done i 0)
   here = rw set-here (left-given (getD spans i 0) (getD spans′ i 0) (getD done i 0) other (more i low) small)

@@ -5,7 +5,7 @@ use mathlib.Core.List.{List, List·Memᴰ as Mem}
 use Prim.Native.Nat.{ℕ, _+_, _%_, _^_, _≤_, _<_}
 use native.Mathlib.Omega.{arith}
 use lib.Bits.{bitXor}
-use lib.ListN.{length, getD, set}
+use lib.ListN.{length, getD, set, length-set}
 use lib.Seq.{getD-set-same, getD-set-other}
 use Rattle.meaning.specs.Credentials.{Statement}
 use Rattle.meaning.specs.Sequence.{Gives}
@@ -14,17 +14,20 @@ use Rattle.meaning.proofs.Levels.{gives-more}
 use Rattle.store.specs.Entries.{keyOf, roleIn, setIn, Has}
 use Rattle.store.proofs.Chains.{equal-or-not}
 use Rattle.store.proofs.Keys.{role-of-key, set-of-key}
-use Rattle.store.proofs.Stores.{grown-trans, grown-has}
-use Rattle.heads.specs.Gaining.{Spanned}
+use Rattle.store.proofs.Stores.{grown-has}
+use Rattle.heads.specs.Gaining.{Origin, Gains}
 use Rattle.heads.proofs.Gaining.{below-or-not, over-more}
 use Rattle.heads.proofs.Heads.{no-bit}
-use Rattle.firing.specs.Firing.{Held, Gained, Found, Combined, Fires}
-use Rattle.firing.proofs.Gained.{gained-over, gained-same, gained-then}
-use Rattle.firing.proofs.Firings.{found-before, fires-before, fires-after}
-use Rattle.closing.specs.Closing.{Policy, Given, TooMany, Closed, Closes}
-use Rattle.closing.specs.Giving.{Gave}
+use Rattle.closure.specs.Closure.{Found, Held, Policy, Given, TooMany, Closed}
+use Rattle.premises.specs.Combining.{Combined}
+use Rattle.premises.specs.Moves.{Firing}
+use Rattle.firing.specs.Firing.{Fires}
+use Rattle.firing.proofs.Firings.{found-before}
+use Rattle.closing.specs.declared.Visit.{Visit}
+use Rattle.closing.specs.Giving.{LastDone, FiresBoth, FromEntry, Gave}
 use Rattle.closing.proofs.Falling.{xor-or, xor-within, lefts-fall}
 use Rattle.closing.proofs.Premises.{Within, combined-below, use-gives, use-head, Some, next-level, Fired, gives-or}
+use Rattle.closing.proofs.Families.{held-after}
 
 -- the key of a membership
 key-given : (ss : ℕ → List Statement) (s Ar X : ℕ) → X < 2 ^ 32 → Some (ss s) Ar X → Given ss (keyOf Ar X) s
@@ -33,11 +36,10 @@ key-given ss s Ar X l (j, w) = (j, rw (role-of-key Ar X l, set-of-key Ar X l) w)
 given-key : (ss : ℕ → List Statement) (s Ar X : ℕ) → X < 2 ^ 32 → Given ss (keyOf Ar X) s → Some (ss s) Ar X
 given-key ss s Ar X l (j, w) = (j, rw (role-of-key Ar X l, set-of-key Ar X l) at w)
 
--- what entry i adds
-abbrev pub New : List ℕ → List ℕ → ℕ → ℕ → List ℕ → List ℕ → ℕ → ℕ → ℕ → Spanned
-New codes valid b h keys done n e d k s = Fires codes valid b h keys done n e d (roleIn e) k s ⊎ Fires codes valid b h keys done n e d (1024 + roleIn e % 32) k s
+module _ {keys spans slots links notes done : List ℕ} {n : ℕ} (h : Held keys spans slots links notes done n) (v : Visit) (low : v .e < n) where
+  abbrev i : ℕ
+  i = v .e
 
-module _ (keys spans done : List ℕ) (n i : ℕ) (low : i < n) (room : i < length done) where
   abbrev e : ℕ
   e = getD keys i 0
 
@@ -47,17 +49,28 @@ module _ (keys spans done : List ℕ) (n i : ℕ) (low : i < n) (room : i < leng
   abbrev done′ : List ℕ
   done′ = set done i (getD spans i 0)
 
+  room : i < length done
+  room = omega (arith, h .room, h .kept .stored .few)
+
   done-here : getD done′ i 0 ≡ getD spans i 0
   done-here = getD-set-same done i (getD spans i 0) 0 room
 
   done-other : (j : ℕ) → (j ≡ i → ⊥) → getD done′ j 0 ≡ getD done j 0
   done-other j ne = getD-set-other done i j (getD spans i 0) 0 ne
 
-  pub done-fresh : ((j : ℕ) → n ≤ j → getD done j 0 ≡ 0) → (j : ℕ) → n ≤ j → getD done′ j 0 ≡ 0
-  done-fresh fresh j l = done-other j (λ q. omega arith) ∙ fresh j l
+  done-fresh : (j : ℕ) → n ≤ j → getD done′ j 0 ≡ 0
+  done-fresh j l = done-other j (λ q. omega arith) ∙ h .fresh j l
 
-  pub done-held : {slots links : List ℕ} → Held keys spans slots links done n → Held keys spans slots links done′ n
-  done-held k = record { stored = k .stored; room = k .room; some = k .some; fresh = done-fresh (k .fresh) }
+  pub done-held : Held keys spans slots links notes done′ n
+  done-held = record { kept = h .kept; room = simp length-set (h .room); fresh = done-fresh }
+
+  pub done-firing : {m limit : ℕ} → LastDone done v → Firing keys done′ n (record { limit = limit; e = i; last = v .last; spans = m })
+  done-firing last =
+      record {
+        low = low;
+        some = λ z. h .kept .some i low (sym done-here ∙ z);
+        last = λ q j l. done-other j (λ f. omega arith) ∙ last q j l;
+      }
 
   -- the done spans are those from before, or new ones of entry i
   has-split : (k s : ℕ) → Has keys done′ n k s → Has keys done n k s ⊎ ((bit d s ≡ 1) × (e ≡ k))
@@ -78,7 +91,7 @@ module _ (keys spans done : List ℕ) (n i : ℕ) (low : i < n) (room : i < leng
       go (inl w) = inl (a, b, w)
       go (inr (w, q)) = inr (w, ap roleIn q ∙ role-of-key Ar X b, ap setIn q ∙ set-of-key Ar X b)
 
-  module _ {ss : ℕ → List Statement} {codes valid lists : List ℕ} {b h : ℕ} (p : Policy ss codes valid lists b h) (c : Closed ss keys spans done n) (small : roleIn e < 1024) where
+  module _ {ss : ℕ → List Statement} {codes valid lists : List ℕ} (p : Policy ss codes valid lists) (c : Closed ss keys spans done n) where
     done-within : (j s : ℕ) → j < n → bit (getD done′ j 0) s ≡ 1 → bit (getD spans j 0) s ≡ 1
     done-within j s l v = go (equal-or-not j i)
       where
@@ -92,26 +105,22 @@ module _ (keys spans done : List ℕ) (n i : ℕ) (low : i < n) (room : i < leng
     found-given : (s : ℕ) → Within (Found keys done′ n s) (Some (ss s))
     found-given s Ar X (a, l, (j, m, q, v)) = given-key ss s Ar X l (c .sound (keyOf Ar X) s (j, m, q, done-within j s m v))
 
-    fires-given : (family k s : ℕ) → Fires codes valid b h keys done′ n e d family k s → Given ss k s
+    fires-given : (family k s : ℕ) → Fires codes valid lists keys done′ n i d family k s → Given ss k s
     fires-given family k s w =
         let q = p .sound (w .which) s (w .fitting) (w .listed) in
         let st = q .0 in
         let u = subst (λ (f : ℕ). Combined (Found keys done′ n s) e f (w .which .kind) (w .which .other) (w .set)) (sym (w .here)) (w .combined) in
-        let g = use-gives (found-given s) (own s (w .new)) small (st .body) (st .head) (w .which) (p .fitting st s (q .1)) (q .2) u in
+        let g = use-gives (found-given s) (own s (w .new)) (h .kept .stored .roles i low) (st .body) (st .head) (w .which) (p .fitting st s (q .1)) (q .2) u in
         let t = next-level (ss s) st (w .set) (q .1) g in
         let l = combined-below (λ Ar X f. f .1) (w .combined) in
         let f : k ≡ keyOf (st .head) (w .set) = w .key ∙ ap (λ (x : ℕ). keyOf x (w .set)) (use-head (st .body) (st .head) (w .which) (q .2)) in
         subst (λ (x : ℕ). Given ss x s) (sym f) (key-given ss s (st .head) (w .set) l t)
 
-    new-given : (k s : ℕ) → New codes valid b h keys done′ n e d k s → Given ss k s
-    new-given k s (inl w) = fires-given (roleIn e) k s w
-    new-given k s (inr w) = fires-given (1024 + roleIn e % 32) k s w
-
     -- the use is listed, so the set is added
-    fired-new : (st : Statement) (s X : ℕ) → Mem st (ss s) → bit d s ≡ 1 → Fired (Found keys done′ n s) e (st .body) (st .head) X → New codes valid b h keys done′ n e d (keyOf (st .head) X) s
+    fired-new : (st : Statement) (s X : ℕ) → Mem st (ss s) → bit d s ≡ 1 → Fired (Found keys done′ n s) e (st .body) (st .head) X → FiresBoth codes valid lists keys done′ n i d (keyOf (st .head) X) s
     fired-new st s X m new f = go (f .family)
       where
-        fires : (family : ℕ) → f .which .family ≡ family → Fires codes valid b h keys done′ n e d family (keyOf (st .head) X) s
+        fires : (family : ℕ) → f .which .family ≡ family → Fires codes valid lists keys done′ n i d family (keyOf (st .head) X) s
         fires family q =
             record {
               new = new;
@@ -124,18 +133,19 @@ module _ (keys spans done : List ℕ) (n i : ℕ) (low : i < n) (room : i < leng
               key = ap (λ (x : ℕ). keyOf x X) (sym (use-head (st .body) (st .head) (f .which) (f .used)));
             }
 
-        go : (f .which .family ≡ roleIn e) ⊎ (f .which .family ≡ 1024 + roleIn e % 32) → New codes valid b h keys done′ n e d (keyOf (st .head) X) s
+        go : (f .which .family ≡ roleIn e) ⊎ (f .which .family ≡ 1024 + roleIn e % 32) → FiresBoth codes valid lists keys done′ n i d (keyOf (st .head) X) s
         go (inl q) = inl (fires (roleIn e) q)
         go (inr q) = inr (fires (1024 + roleIn e % 32) q)
 
-    module _ {limit r : ℕ} {keys′ spans′ slots′ links′ : List ℕ} (fresh : (j : ℕ) → n ≤ j → getD done j 0 ≡ 0) (g : Gained limit keys spans n (New codes valid b h keys done′ n e d) keys′ spans′ slots′ links′ done′ r) where
-      each-given : (k s : ℕ) → Has keys spans n k s ⊎ New codes valid b h keys done′ n e d k s → Given ss k s
+    module _ {limit r : ℕ} {keys′ spans′ slots′ links′ notes′ : List ℕ} {By : Origin} (g : Gains limit keys spans notes n (FiresBoth codes valid lists keys done′ n i d) By keys′ spans′ slots′ links′ notes′ r) where
+      each-given : (k s : ℕ) → Has keys spans n k s ⊎ FiresBoth codes valid lists keys done′ n i d k s → Given ss k s
       each-given k s (inl w) = c .sound k s w
-      each-given k s (inr w) = new-given k s w
+      each-given k s (inr (inl w)) = fires-given (roleIn e) k s w
+      each-given k s (inr (inr w)) = fires-given (1024 + roleIn e % 32) k s w
 
       still-within : r ≤ limit → (j s : ℕ) → bit (getD done′ j 0) s ≡ 1 → (j < n) ⊎ (n ≤ j) → bit (getD spans′ j 0) s ≡ 1
       still-within l j s v (inl m) = g .grown l .kept j s m (done-within j s m v)
-      still-within l j s v (inr m) = absurd (no-bit (getD done′ j 0) s (done-fresh fresh j m) v)
+      still-within l j s v (inr m) = absurd (no-bit (getD done′ j 0) s (done-fresh j m) v)
 
       found-old : r ≤ limit → (s Ar X : ℕ) → Found keys spans n s Ar X → Found keys′ spans′ r s Ar X
       found-old l s Ar X (a, x, w) = (a, x, grown-has (g .grown l) (keyOf Ar X) s w)
@@ -144,7 +154,7 @@ module _ (keys spans done : List ℕ) (n i : ℕ) (low : i < n) (room : i < leng
       still-closed l st s X m w = go (gives-or e (bit d s ≡ 1) (found-split s) (st .head) X (st .body) (p .fitting st s m) (gives-more back back (st .body) X w))
         where
           back : Within (Found keys′ done′ r s) (Found keys done′ n s)
-          back = found-before done′ (g .grown l) (done-fresh fresh) s
+          back = found-before done′ (g .grown l) done-fresh s
 
           go : Gives (Found keys done n s) (Found keys done n s) (st .body) X ⊎ ((bit d s ≡ 1) × Fired (Found keys done′ n s) e (st .body) (st .head) X) → Found keys′ spans′ r s (st .head) X
           go (inl q) = found-old l s (st .head) X (c .closed st s X m q)
@@ -165,34 +175,19 @@ module _ (keys spans done : List ℕ) (n i : ℕ) (low : i < n) (room : i < leng
       gave-over : limit < r → TooMany ss limit
       gave-over l = over-more (λ k w. (w .0, each-given k (w .0) (w .1))) (g .over l)
 
-  pub gained-closes : {limit r b h : ℕ} {codes valid lists keys′ spans′ slots′ links′ : List ℕ} → roleIn e < 1024 → ((j : ℕ) → n ≤ j → getD done j 0 ≡ 0) → Gained limit keys spans n (New codes valid b h keys done′ n e d) keys′ spans′ slots′ links′ done′ r → Closes limit codes valid lists b h keys spans done n keys′ spans′ slots′ links′ done′ r
-  gained-closes small fresh g =
-      record {
-        held = g .held;
-        closed = λ l ss p c. gave-closed p c small fresh g l;
-        over = λ l ss p c. gave-over p c small fresh g l;
-      }
-
-  -- the uses of the entry's role, then those of links by its name
-  module _ {codes valid : List ℕ} {b h limit r : ℕ} {keys′ spans′ slots′ links′ : List ℕ} (small : roleIn e < 1024) (fresh : (j : ℕ) → n ≤ j → getD done j 0 ≡ 0) (g : Gained limit keys spans n (Fires codes valid b h keys done′ n e d (roleIn e)) keys′ spans′ slots′ links′ done′ r) where
-    pub gave-first : {lists : List ℕ} → limit < r → Gave limit codes valid lists b h keys spans done n keys′ spans′ slots′ links′ done′ r
-    gave-first l = record { closes = gained-closes small fresh (gained-over (λ k s. inl) l g); less = λ m. absurd (omega arith) }
-
-    module _ {t : ℕ} {keys″ spans″ slots″ links″ : List ℕ} (few : r ≤ limit) (f : Gained limit keys′ spans′ r (Fires codes valid b h keys′ done′ r e d (1024 + roleIn e % 32)) keys″ spans″ slots″ links″ done′ t) where
-      abbrev Later : Spanned
-      Later k s = Fires codes valid b h keys done′ n e d (roleIn e) k s ⊎ Fires codes valid b h keys′ done′ r e d (1024 + roleIn e % 32) k s
-
-      to : (k s : ℕ) → Later k s → New codes valid b h keys done′ n e d k s
-      to k s (inl w) = inl w
-      to k s (inr w) = inr (fires-before done′ (g .grown few) (done-fresh fresh) codes valid b h e d (1024 + roleIn e % 32) k s w)
-
-      from : (k s : ℕ) → New codes valid b h keys done′ n e d k s → Later k s
-      from k s (inl w) = inl w
-      from k s (inr w) = inr (fires-after done′ (g .grown few) (done-fresh fresh) codes valid b h e d (1024 + roleIn e % 32) k s w)
-
-      pub gave-both : {lists : List ℕ} → n ≤ limit → length done ≡ limit → (getD done i 0 ≡ getD spans i 0 → ⊥) → getD spans i 0 < 18446744073709551616 → Gave limit codes valid lists b h keys spans done n keys″ spans″ slots″ links″ done′ t
-      gave-both start long other fits =
-          record {
-            closes = gained-closes small fresh (gained-same to from (gained-then g few f));
-            less = λ l. lefts-fall (grown-trans (g .grown few) (f .grown l)) done fresh i limit low start long other fits;
-          }
+  -- the spans x are the new ones
+  module _ (codes valid lists : List ℕ) (few : n ≤ v .limit) (other : getD done i 0 ≡ getD spans i 0 → ⊥) (fits : getD spans i 0 < 18446744073709551616) where
+    pub gains-gave : {x r : ℕ} {keys′ spans′ slots′ links′ notes′ : List ℕ} → x ≡ d → Gains (v .limit) keys spans notes n (FiresBoth codes valid lists keys done′ n i x) (FromEntry codes lists keys done′ n i) keys′ spans′ slots′ links′ notes′ r → Gave codes valid lists keys spans notes done n v keys′ spans′ slots′ links′ notes′ done′ r
+    gains-gave {r} {keys′} {spans′} {slots′} {links′} {notes′} new f =
+        let g = subst (λ (y : ℕ). Gains (v .limit) keys spans notes n (FiresBoth codes valid lists keys done′ n i y) (FromEntry codes lists keys done′ n i) keys′ spans′ slots′ links′ notes′ r) new f in
+        record {
+          closes = record {
+            held = held-after done-held g;
+            closed = λ l ss p c. gave-closed p c g l;
+            over = λ l ss p c. gave-over p c g l;
+          };
+          less = λ l. lefts-fall (g .grown l) done (h .fresh) i (v .limit) low few room other fits;
+          grown = g .grown;
+          marked = refl;
+          noted = g .noted;
+        }

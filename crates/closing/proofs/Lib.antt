@@ -1,4 +1,5 @@
 pub mod Falling
 pub mod Premises
+pub mod Families
 pub mod Giving
 pub mod Turning

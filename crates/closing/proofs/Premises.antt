@@ -11,8 +11,9 @@ use Rattle.meaning.specs.Sequence.{Relation, Gives, S}
 use Rattle.meaning.proofs.Derivations.{S-up}
 use Rattle.store.specs.Entries.{roleIn, setIn}
 use Rattle.store.proofs.Keys.{set-below}
-use Rattle.rules.specs.Uses.{Use, useOf, UsedBy, Fitting}
-use Rattle.firing.specs.Firing.{Combined, inclusion, linking, linked, intersection, union, disjoint}
+use Rattle.rules.specs.declared.Use.{Use}
+use Rattle.rules.specs.Uses.{useOf, UsedBy, Fitting}
+use Rattle.premises.specs.Combining.{Combined, inclusion, linking, linked, intersection, union, disjoint}
 
 -- ---- what a use gives
 

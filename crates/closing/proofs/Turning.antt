@@ -3,24 +3,20 @@ use mathlib.Core.Path.{_≡_, sym, ap, _∙_}
 use mathlib.Core.Logic.{_⊎_, inl, inr}
 use mathlib.Core.Bool.{Bool, true, false}
 use mathlib.Core.List.{List}
-use Prim.Native.Nat.{ℕ, _+_, _≤_, _<_}
+use Prim.Native.Nat.{ℕ, _+_, _≤_}
 use native.Mathlib.Nat.{le-refl, le-trans}
 use native.Mathlib.Omega.{arith}
-use lib.ListN.{length, getD}
+use lib.ListN.{getD}
 use Rattle.store.proofs.Chains.{equal-or-not}
-use Rattle.firing.specs.Firing.{Held}
-use Rattle.closing.specs.Closing.{Finished, Closes}
+use Rattle.closure.specs.Closure.{Held, Finished}
+use Rattle.closing.specs.declared.Visit.{Visit}
+use Rattle.closing.specs.Closing.{Closes}
 use Rattle.closing.specs.Giving.{Gave, Turned, Still}
 
--- the lists are as long as they were
-abbrev pub Alike : List ℕ → List ℕ → List ℕ → List ℕ → List ℕ → List ℕ → List ℕ → List ℕ → List ℕ → List ℕ → Type 0
-Alike keys spans slots links done keys′ spans′ slots′ links′ done′ =
-    (length keys′ ≡ length keys) × (length spans′ ≡ length spans) × (length slots′ ≡ length slots) × (length links′ ≡ length links) × (length done′ ≡ length done)
-
-pub closes-none : {limit : ℕ} {codes valid lists : List ℕ} {b h : ℕ} {keys spans slots links done : List ℕ} {n : ℕ} → n ≤ limit → Held keys spans slots links done n → Closes limit codes valid lists b h keys spans done n keys spans slots links done n
+pub closes-none : {limit : ℕ} {codes valid lists keys spans slots links notes done : List ℕ} {n : ℕ} → n ≤ limit → Held keys spans slots links notes done n → Closes limit codes valid lists keys spans done n keys spans slots links notes done n
 closes-none few k = record { held = λ _. k; closed = λ _ ss p c. c; over = λ l. absurd (omega arith) }
 
-pub closes-then : {limit : ℕ} {codes valid lists : List ℕ} {b h : ℕ} {keys spans done keys′ spans′ slots′ links′ done′ keys″ spans″ slots″ links″ done″ : List ℕ} {n r t : ℕ} → r ≤ limit → Closes limit codes valid lists b h keys spans done n keys′ spans′ slots′ links′ done′ r → Closes limit codes valid lists b h keys′ spans′ done′ r keys″ spans″ slots″ links″ done″ t → Closes limit codes valid lists b h keys spans done n keys″ spans″ slots″ links″ done″ t
+pub closes-then : {limit : ℕ} {codes valid lists keys spans done keys′ spans′ slots′ links′ notes′ done′ keys″ spans″ slots″ links″ notes″ done″ : List ℕ} {n r t : ℕ} → r ≤ limit → Closes limit codes valid lists keys spans done n keys′ spans′ slots′ links′ notes′ done′ r → Closes limit codes valid lists keys′ spans′ done′ r keys″ spans″ slots″ links″ notes″ done″ t → Closes limit codes valid lists keys spans done n keys″ spans″ slots″ links″ notes″ done″ t
 closes-then few g k =
     record {
       held = k .held;
@@ -28,19 +24,16 @@ closes-then few g k =
       over = λ l ss p c. k .over l ss p (g .closed few ss p c);
     }
 
-module _ {limit : ℕ} {codes valid lists : List ℕ} {b h : ℕ} {keys spans done : List ℕ} {n : ℕ} where
-  pub turned-none : {slots links : List ℕ} (any : Bool) → n ≤ limit → Held keys spans slots links done n → Turned limit codes valid lists b h keys spans done n any keys spans slots links done n any
+module _ {limit : ℕ} {codes valid lists keys spans done : List ℕ} {n : ℕ} where
+  pub turned-none : {slots links notes : List ℕ} (any : Bool) → n ≤ limit → Held keys spans slots links notes done n → Turned limit codes valid lists keys spans done n any keys spans slots links notes done n any
   turned-none any few k = record { closes = closes-none few k; less = λ _. le-refl _ }
 
-  module _ {keys′ spans′ slots′ links′ done′ : List ℕ} {r : ℕ} where
-    pub turned-gave : (any : Bool) → Gave limit codes valid lists b h keys spans done n keys′ spans′ slots′ links′ done′ r → Turned limit codes valid lists b h keys spans done n any keys′ spans′ slots′ links′ done′ r true
-    turned-gave any g = record { closes = g .closes; less = λ l. let m = g .less l in omega arith }
-
-    pub turned-over : (any any′ any″ : Bool) → limit < r → Turned limit codes valid lists b h keys spans done n any keys′ spans′ slots′ links′ done′ r any′ → Turned limit codes valid lists b h keys spans done n any keys′ spans′ slots′ links′ done′ r any″
-    turned-over any any′ any″ l g = record { closes = g .closes; less = λ m. absurd (omega arith) }
-
-    pub turned-then : {any any′ any″ : Bool} {keys″ spans″ slots″ links″ done″ : List ℕ} {t : ℕ} → r ≤ limit → Turned limit codes valid lists b h keys spans done n any keys′ spans′ slots′ links′ done′ r any′ → Turned limit codes valid lists b h keys′ spans′ done′ r any′ keys″ spans″ slots″ links″ done″ t any″ → Turned limit codes valid lists b h keys spans done n any keys″ spans″ slots″ links″ done″ t any″
+  module _ {keys′ spans′ slots′ links′ notes′ done′ : List ℕ} {r : ℕ} where
+    pub turned-then : {any any′ any″ : Bool} {keys″ spans″ slots″ links″ notes″ done″ : List ℕ} {t : ℕ} → r ≤ limit → Turned limit codes valid lists keys spans done n any keys′ spans′ slots′ links′ notes′ done′ r any′ → Turned limit codes valid lists keys′ spans′ done′ r any′ keys″ spans″ slots″ links″ notes″ done″ t any″ → Turned limit codes valid lists keys spans done n any keys″ spans″ slots″ links″ notes″ done″ t any″
     turned-then few g k = record { closes = closes-then few (g .closes) (k .closes); less = λ l. le-trans (k .less l) (g .less few) }
+
+pub turned-gave : {codes valid lists keys spans notes done : List ℕ} {n : ℕ} {v : Visit} {keys′ spans′ slots′ links′ notes′ done′ : List ℕ} {r : ℕ} (any : Bool) → Gave codes valid lists keys spans notes done n v keys′ spans′ slots′ links′ notes′ done′ r → Turned (v .limit) codes valid lists keys spans done n any keys′ spans′ slots′ links′ notes′ done′ r true
+turned-gave any g = record { closes = g .closes; less = λ l. let m = g .less l in omega arith }
 
 pub finished-none : (spans done : List ℕ) → Finished spans done 0
 finished-none spans done i l = absurd (omega arith)

@@ -1,12 +1,18 @@
--- What the private functions do, and a number that falls whenever an entry gives.
+-- What an entry that gives leaves, and a number that falls whenever one gives.
 use mathlib.Core.Path.{_≡_}
-use mathlib.Core.Bool.{Bool, false}
+use mathlib.Core.Logic.{_⊎_}
+use mathlib.Core.Bool.{Bool, true, false}
 use mathlib.Core.List.{List}
-use Prim.Native.Nat.{ℕ, zero, suc, _+_, _-_, _≤_, _<_}
+use Prim.Native.Nat.{ℕ, zero, suc, _+_, _-_, _%_, _≤_, _<_}
 use lib.Dec.{leb}
-use lib.ListN.{getD}
+use lib.ListN.{getD, set}
 use Rattle.meaning.specs.Lists.{if}
 use Rattle.meaning.specs.Table.{digit}
+use Rattle.store.specs.Entries.{roleIn, Grown}
+use Rattle.heads.specs.Gaining.{Spanned, Noted}
+use Rattle.premises.specs.Combining.{InFamily}
+use Rattle.firing.specs.Firing.{Fires, FromFamily}
+use Rattle.closing.specs.declared.Visit.{Visit}
 use Rattle.closing.specs.Closing.{Closes}
 
 -- How much can still be done in a place with the spans m, if x is done: it falls as x comes to be m, whether or not x was within m.
@@ -21,14 +27,30 @@ sum f (suc n) = sum f n + f n
 unfoldable pub lefts : List ℕ → List ℕ → ℕ → ℕ
 lefts spans done n = sum (λ i. left (getD spans i 0) (getD done i 0)) n
 
--- an entry gave
-pub record Gave (limit : ℕ) (codes valid lists : List ℕ) (b h : ℕ) (keys spans done : List ℕ) (n : ℕ) (keys′ spans′ slots′ links′ done′ : List ℕ) (r : ℕ) : Type 0 where
-  pub closes : Closes limit codes valid lists b h keys spans done n keys′ spans′ slots′ links′ done′ r
-  pub less : r ≤ limit → lefts spans′ done′ limit < lefts spans done limit
+-- where it is said, nothing after the entry is done
+abbrev pub LastDone : List ℕ → Visit → Type 0
+LastDone done v = v .last ≡ true → (i : ℕ) → v .e < i → getD done i 0 ≡ 0
+
+-- one key in some span of d that the uses of one of entry e's two families give
+abbrev pub FiresBoth : List ℕ → List ℕ → List ℕ → List ℕ → List ℕ → ℕ → ℕ → ℕ → Spanned
+FiresBoth codes valid lists keys done n e d k s =
+    Fires codes valid lists keys done n e d (roleIn (getD keys e 0)) k s ⊎ Fires codes valid lists keys done n e d (1024 + roleIn (getD keys e 0) % 32) k s
+
+-- the note of an entry that a body of one of its families makes from entry e
+abbrev pub FromEntry : List ℕ → List ℕ → List ℕ → List ℕ → ℕ → ℕ → ℕ → ℕ → ℕ → ℕ → Type 0
+FromEntry codes lists keys done n e k at first second = (family : ℕ) × InFamily keys e family × FromFamily codes lists keys done n e family k at first second
+
+-- entry e gave
+pub record Gave (codes valid lists keys spans notes done : List ℕ) (n : ℕ) (v : Visit) (keys′ spans′ slots′ links′ notes′ done′ : List ℕ) (r : ℕ) : Type 0 where
+  pub closes : Closes (v .limit) codes valid lists keys spans done n keys′ spans′ slots′ links′ notes′ done′ r
+  pub less : r ≤ v .limit → lefts spans′ done′ (v .limit) < lefts spans done (v .limit)
+  pub grown : r ≤ v .limit → Grown keys spans n keys′ spans′ r
+  pub marked : done′ ≡ set done (v .e) (getD spans (v .e) 0)
+  pub noted : r ≤ v .limit → Noted notes n (FromEntry codes lists keys done′ n (v .e)) keys′ notes′ r
 
 -- some entries gave, if any
-pub record Turned (limit : ℕ) (codes valid lists : List ℕ) (b h : ℕ) (keys spans done : List ℕ) (n : ℕ) (any : Bool) (keys′ spans′ slots′ links′ done′ : List ℕ) (r : ℕ) (any′ : Bool) : Type 0 where
-  pub closes : Closes limit codes valid lists b h keys spans done n keys′ spans′ slots′ links′ done′ r
+pub record Turned (limit : ℕ) (codes valid lists keys spans done : List ℕ) (n : ℕ) (any : Bool) (keys′ spans′ slots′ links′ notes′ done′ : List ℕ) (r : ℕ) (any′ : Bool) : Type 0 where
+  pub closes : Closes limit codes valid lists keys spans done n keys′ spans′ slots′ links′ notes′ done′ r
   pub less : r ≤ limit → lefts spans′ done′ limit + digit any′ ≤ lefts spans done limit + digit any
 
 -- none gave so far, and entry i has nothing to give

@@ -8,11 +8,11 @@ use lib.Dec.{eqb, ltb}
 use lib.ListN.{length, take, drop}
 use Rattle.meaning.specs.Lists.{if}
 use Rattle.meaning.specs.Table.{Row, table}
-use Rattle.file.specs.Refusals.{Outcome, first, _when_}
+use Rattle.file.specs.Refusals.{Outcome, first, _when_, left}
 use Rattle.file.specs.Format.{credentials}
 use Rattle.file.specs.Reading.{between, reading}
 use Rattle.writing.specs.Columns.{column}
-use Rattle.completing.specs.Completing.{Lent, lent, replyTo, left, Ending, ending, completing}
+use Rattle.completing.specs.Completing.{Lent, lent, replyTo, Ending, ending, completing}
 use Rattle.codec.specs.Bytes.{bytesOf, entries}
 use Rattle.codec.proofs.Entries.{length-entries}
 use Rattle.replies.specs.Interface.{word, notWhole}

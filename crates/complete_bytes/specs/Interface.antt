@@ -4,10 +4,10 @@ use mathlib.Core.List.{List}
 use Prim.Native.Nat.{ℕ}
 use Rattle.meaning.specs.Lists.{if}
 use Rattle.meaning.specs.Table.{table}
-use Rattle.file.specs.Refusals.{Outcome}
+use Rattle.file.specs.Refusals.{Outcome, left}
 use Rattle.file.specs.Format.{credentials}
 use Rattle.writing.specs.Columns.{column}
-use Rattle.completing.specs.Completing.{Lent, lent, replyTo, left, Ending, ending}
+use Rattle.completing.specs.Completing.{Lent, lent, replyTo, Ending, ending}
 use Rattle.codec.specs.Bytes.{bytesOf, entries, whole}
 use Rattle.replies.specs.Interface.{notWhole, entryCount}
 

@@ -11,7 +11,7 @@ use borrow.Author.Tests.{ne-eqb, lt-ltb, le-ltb}
 use Rattle.meaning.specs.Credentials.{Credential}
 use Rattle.meaning.specs.Table.{Row, ends, spanCount, table}
 use Rattle.meaning.proofs.Tests.{and-left, and-right}
-use Rattle.file.specs.Refusals.{Outcome, done, refused, first, numberOf}
+use Rattle.file.specs.Refusals.{Outcome, done, refused, first, numberOf, left}
 use Rattle.file.specs.Format.{credentials}
 use Rattle.file.specs.Reading.{between, read}
 use Rattle.file.specs.Conditions.{Refused, short, limits, wrongLength, kind, range, unused, period, tooManyEnds}
@@ -20,9 +20,9 @@ use Rattle.policy.specs.Policy.{credentialsOf}
 use Rattle.ends.specs.Ends.{padded, Surveyed, endsRead}
 use Rattle.ends.specs.declared.Summary.{Summary}
 use Rattle.ends.proofs.Answers.{survey-refused, survey-passed}
-use Rattle.loading.specs.Loading.{Loadable}
 use Rattle.writing.specs.Columns.{column}
-use Rattle.completing.specs.Completing.{Lent, lentRow, fullRow, replyTo, left, Ending, ending, completing, lastReply, endingBy, lastEnding, Worked}
+use Rattle.completing.specs.Completing.{Lent, lentRow, fullRow, replyTo, Ending, ending, completing}
+use Rattle.completing.specs.Working.{lastReply, endingBy, lastEnding, Worked, Loadable}
 
 -- the refusals of a file are 1 to 8
 low : {f : List ℕ} {n p : ℕ} → Refused f n p → n ≤ 8

@@ -25,9 +25,8 @@ use Rattle.meaning.proofs.Rows.{key, RowAt, Completed, completed-table, table-a
 use Rattle.store.specs.Entries.{keyOf, roleIn, setIn, Stored}
 use Rattle.store.proofs.Keys.{role-of-key, set-of-key, set-below, key-of-parts}
 use Rattle.heads.proofs.Gaining.{some-bit}
-use Rattle.firing.specs.Firing.{Found}
-use Rattle.closing.specs.Closing.{Closed, Finished, TooMany}
-use Rattle.loading.specs.Loading.{statementsIn}
+use Rattle.closure.specs.Closure.{Found, Closed, Finished, TooMany}
+use Rattle.loading.specs.Loading.{bySpan}
 use Rattle.writing.specs.Columns.{rowAt, rowsOf}
 use Rattle.writing.proofs.Gathering.{Distinct, keys-ascending, rows-gathered, rows-length}
 
@@ -41,7 +40,7 @@ module _ (cs : List Credential) (w : FitsAll cs) where
   es = ends cs
 
   abbrev ss : ℕ → List Statement
-  ss = statementsIn es cs
+  ss = bySpan cs
 
   -- what is given in a span can be derived at its first minute
   pub given-derivable : (s k Ar X : ℕ) → S (ss s) k Ar X → (s < spanCount es) × Derivable cs (getD es s 0) Ar X

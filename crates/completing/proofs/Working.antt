@@ -1,62 +1,64 @@
 -- What loading, closing and writing come to: the columns of the table, or a table longer than the lists.
-use mathlib.Core.Path.{_≡_, refl, sym, ap, _∙_, subst}
+use mathlib.Core.Path.{_≡_, sym, ap, _∙_, subst}
 use mathlib.Core.Logic.{_↔_}
 use mathlib.Core.List.{List, List·Memᴰ as Mem}
-use Prim.Native.Nat.{ℕ, zero, suc, _≤_, _<_, zero-le}
+use Prim.Native.Nat.{ℕ, _≤_, _<_, zero-le}
 use native.Mathlib.Omega.{arith}
-use lib.ListN.{length, getD, replicate, length-replicate}
+use lib.ListN.{length, getD, replicate}
 use Rattle.meaning.specs.Credentials.{Credential, FitsAll}
 use Rattle.meaning.specs.Table.{Row, table}
+use Rattle.policy.specs.Policy.{credentialsOf}
 use Rattle.store.proofs.Stores.{distinct-keys}
-use Rattle.firing.specs.Firing.{Held}
-use Rattle.closing.specs.Closing.{Closed, Finished, TooMany, Closes}
-use Rattle.loading.specs.Loading.{bySpan, Blank, Loaded}
+use Rattle.heads.specs.Gaining.{Kept, Gains}
+use Rattle.closure.specs.Closure.{Held, Closed, Finished, TooMany}
+use Rattle.closing.specs.Closing.{Closes}
+use Rattle.loading.specs.Loading.{Spans, UsesLoaded, StatedBy, FactBy, bySpan, Loaded}
+use Rattle.loading.proofs.Wholes.{own-spans, loaded, loaded-own}
 use Rattle.writing.specs.Columns.{column, rowAt, rowsOf, Written}
 use Rattle.writing.proofs.Gathering.{rows-gathered}
-use Rattle.completing.specs.Completing.{Worked, Filled}
+use Rattle.completing.specs.Working.{Worked, Loadable, Filled}
+use Rattle.loading.proofs.Blank.{zero-at, zeros-length}
 use Rattle.completing.proofs.Tables.{is-table, too-many}
 
-zeros-at : (n i : ℕ) → _≡_ {A = ℕ} (getD (replicate n 0) i 0) 0
-zeros-at zero i = refl
-zeros-at (suc n) zero = refl
-zeros-at (suc n) (suc i) = zeros-at n i
+-- nothing is done yet
+pub held : {keys found slots links notes done : List ℕ} {n : ℕ} → Kept keys found slots links notes n → done ≡ replicate 1024 0 → Held keys found slots links notes done n
+held k e = record { kept = k; room = zeros-length 1024 e; fresh = λ i _. zero-at 1024 e i }
 
--- in a list of zeros nothing is done
-pub none-done : {done : List ℕ} (n : ℕ) → done ≡ replicate n 0 → (i : ℕ) → getD done i 0 ≡ 0
-none-done n e i = ap (λ (l : List ℕ). getD l i 0) e ∙ zeros-at n i
+module _ {p : List ℕ} {n : ℕ} {es : List ℕ} {count limit : ℕ} (l : Loadable p n es count limit) where
+  -- the spans begin at the first of the ends
+  pub spanned : Spans es count
+  spanned = own-spans (credentialsOf p n) (l .held) (l .counted) (l .few)
 
--- a working store of zeros
-pub blank : {keys found slots links codes valid lists : List ℕ} → length keys ≡ 1024 → length found ≡ 1024 → slots ≡ replicate 3072 0 → links ≡ replicate 2048 0 → length codes ≡ 1024
-    → length valid ≡ 512 → lists ≡ replicate 2592 0 → Blank keys found slots links codes valid lists
-blank k f s l c v t = record {
-  entries = (k, f, ap length s ∙ length-replicate {A = ℕ} 3072 0, ap length l ∙ length-replicate {A = ℕ} 2048 0);
-  uses = (c, v, ap length t ∙ length-replicate {A = ℕ} 2592 0);
-  slotted = λ p _. none-done 3072 s p;
-  linked = λ p _. none-done 2048 l p;
-  listed = λ p _. none-done 2592 t p;
-}
+  -- the statements of the policy are loaded
+  pub all-loaded : {codes valid lists keys found notes keys′ found′ slots′ links′ notes′ : List ℕ} {r : ℕ} → UsesLoaded p n es count codes valid lists
+      → Gains limit keys found notes 0 (StatedBy p n es count) (FactBy p n es count) keys′ found′ slots′ links′ notes′ r
+      → Loaded (bySpan (credentialsOf p n)) limit keys′ found′ slots′ links′ notes′ codes valid lists r
+  all-loaded u g = loaded-own (credentialsOf p n) (l .held) (l .counted) (loaded p n es count (l .decoded) u g)
 
--- more entries than the limit were loaded
-pub filled-over : {cs : List Credential} {keys found slots links done codes valid lists : List ℕ} {limit b h n : ℕ} → Loaded cs limit keys found slots links done codes valid lists b h n → limit < n
-    → Filled cs limit keys found slots links done n
-filled-over d h = record {
-  held = λ l. absurd (omega arith);
-  closed = λ l. absurd (omega arith);
-  finished = λ l. absurd (omega arith);
-  over = d .over;
-}
+module _ {cs : List Credential} {limit : ℕ} {keys found slots links notes codes valid lists : List ℕ} {n : ℕ} (d : Loaded (bySpan cs) limit keys found slots links notes codes valid lists n) where
+  -- more entries than the limit were loaded
+  pub filled-over : limit < n → Filled cs limit keys found slots links n
+  filled-over h = record {
+    stored = λ l. absurd (omega arith);
+    some = λ l. absurd (omega arith);
+    finished = λ l. absurd (omega arith);
+    room = λ l. absurd (omega arith);
+    over = d .over;
+  }
 
--- what was loaded is closed
-pub filled : {cs : List Credential} {keys found slots links done codes valid lists keys′ found′ slots′ links′ done′ : List ℕ} {limit b h n r : ℕ}
-    → Loaded cs limit keys found slots links done codes valid lists b h n → n ≤ limit
-    → Closes limit codes valid lists b h keys found done n keys′ found′ slots′ links′ done′ r → (r ≤ limit → Finished found′ done′ r)
-    → Filled cs limit keys′ found′ slots′ links′ done′ r
-filled {cs} d h c e = record {
-  held = c .held;
-  closed = λ l. c .closed l (bySpan cs) (d .policy h) (d .closed h);
-  finished = e;
-  over = λ l. c .over l (bySpan cs) (d .policy h) (d .closed h);
-}
+  -- what was loaded is closed
+  pub filled : {done keys′ found′ slots′ links′ notes′ done′ : List ℕ} {r : ℕ} → n ≤ limit → done ≡ replicate 1024 0
+      → Closes limit codes valid lists keys found done n keys′ found′ slots′ links′ notes′ done′ r → (r ≤ limit → Finished found′ done′ r) → Filled cs limit keys′ found′ slots′ links′ r
+  filled {done} {done′ = done′} h z c e = record {
+    stored = λ l. c .held l .kept .stored;
+    some = λ l. c .held l .kept .some;
+    finished = λ l. (done′, c .closed l (bySpan cs) (d .policy) before, e l);
+    room = λ l. c .held l .kept .room .0;
+    over = λ l. c .over l (bySpan cs) (d .policy) before;
+  }
+    where
+      before : Closed (bySpan cs) keys found done n
+      before = d .closed h done (zero-at 1024 z)
 
 module _ {cs : List Credential} (fits : FitsAll cs) (size : ℕ) where
   pub worked-over : {roles sets spans : List ℕ} {r : ℕ} → size < r → TooMany (bySpan cs) size → Worked cs size roles sets spans r
@@ -68,9 +70,8 @@ module _ {cs : List Credential} (fits : FitsAll cs) (size : ℕ) where
     over = λ l. too-many cs fits size t;
   }
 
-  pub worked : {keys found slots links done roles sets spans : List ℕ} {r : ℕ} → r ≤ size → Held keys found slots links done r → Closed (bySpan cs) keys found done r
-      → Finished found done r → Written keys found r size roles sets spans → Worked cs size roles sets spans r
-  worked {keys} {found} {slots} {links} {done} {roles} {sets} {spans} {r} l h c e w = record {
+  pub worked : {keys found slots links roles sets spans : List ℕ} {r : ℕ} → r ≤ size → Filled cs size keys found slots links r → Written keys found r size roles sets spans → Worked cs size roles sets spans r
+  worked {keys} {found} {slots} {links} {roles} {sets} {spans} {r} l f w = record {
     count = λ _. sym (w .count) ∙ ap length same;
     byRole = λ _. w .byRole ∙ ap (column (λ x. x .role) size) same;
     bySet = λ _. w .bySet ∙ ap (column (λ x. x .set) size) same;
@@ -79,7 +80,7 @@ module _ {cs : List Credential} (fits : FitsAll cs) (size : ℕ) where
   }
     where
       distinct : (i j : ℕ) → i < r → j < r → getD keys i 0 ≡ getD keys j 0 → i ≡ j
-      distinct = distinct-keys (h .stored)
+      distinct = distinct-keys (f .stored l)
 
       exact : (x : Row) → Mem x (rowsOf keys found r) ↔ ((i : ℕ) × (i < r) × (x ≡ rowAt keys found i))
       exact x =
@@ -90,5 +91,6 @@ module _ {cs : List Credential} (fits : FitsAll cs) (size : ℕ) where
 
       same : rowsOf keys found r ≡ table cs
       same =
-          is-table cs fits keys found slots links done r (h .stored) (h .some) c e (rowsOf keys found r)
+          let e = f .finished l in
+          is-table cs fits keys found slots links (e .0) r (f .stored l) (f .some l) (e .1) (e .2) (rowsOf keys found r)
           (rows-gathered keys found r distinct .ascending) exact

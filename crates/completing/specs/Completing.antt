@@ -1,20 +1,14 @@
 -- Completing the table (document 01): the reply, and what the three lent lists then hold.
-use mathlib.Core.Path.{_≡_}
-use mathlib.Core.Bool.{Bool, _&&_, _||_, not}
+use mathlib.Core.Bool.{Bool, _&&_, not}
 use mathlib.Core.List.{List, [], _∷_, _++_}
-use Prim.Native.Nat.{ℕ, _≤_, _<_}
+use Prim.Native.Nat.{ℕ}
 use lib.Dec.{eqb, ltb}
-use lib.ListN.{length, replicate}
-use Rattle.meaning.specs.Lists.{if}
-use Rattle.meaning.specs.Credentials.{Credential}
-use Rattle.meaning.specs.Table.{Row, table}
+use lib.ListN.{length}
+use Rattle.meaning.specs.Table.{table}
 use Rattle.file.specs.Refusals as R
-use Rattle.file.specs.Refusals.{Outcome, done, refused, first, _when_}
+use Rattle.file.specs.Refusals.{Outcome, done, refused, first, _when_, left}
 use Rattle.file.specs.Format.{credentials}
 use Rattle.file.specs.Reading.{between, reading}
-use Rattle.firing.specs.Firing.{Held}
-use Rattle.closing.specs.Closing.{Closed, Finished, TooMany}
-use Rattle.loading.specs.Loading.{bySpan}
 use Rattle.writing.specs.Columns.{column}
 use Rattle.completing.specs.declared.Completed.{Completed}
 use Rattle.completing.specs.declared.Completed.the-variants as C
@@ -44,11 +38,6 @@ fullRow f t = 10 when (ltb (length (t .roles)) (length (table (credentials f))))
 unfoldable pub replyTo : List ℕ → Lent → Outcome ℕ
 replyTo f t = first (reading f ++ (lentRow t ∷ fullRow f t ∷ [])) (length (table (credentials f)))
 
--- What a call leaves in a lent list: what it writes on success, zeros after 10 and 13, and otherwise what was there.
-abbrev pub left : {A : Type 0} → Outcome A → List ℕ → List ℕ → List ℕ
-left (done a) before written = written
-left (refused n p) before written = if (eqb n 10 || eqb n 13) (replicate (length before) 0) before
-
 -- how a call ends: its reply, and the lists as it leaves them
 pub record Ending : Type 0 where
   pub reply : Outcome ℕ
@@ -69,30 +58,3 @@ completing f t =
 abbrev pub says : Completed → Outcome ℕ
 says (C.Memberships n) = done n
 says (C.Refused n p) = refused n p
-
--- The ending after 1 to 9, by the table of some credentials: refusal 10, or the count of its rows.
-abbrev pub lastReply : List Credential → Lent → Outcome ℕ
-lastReply cs t = first (10 when (ltb (length (t .roles)) (length (table cs))) ∷ []) (length (table cs))
-
-abbrev pub endingBy : List Credential → Lent → Outcome ℕ → Ending
-endingBy cs t o =
-    ending o (left o (t .roles) (column (λ x. x .role) (length (t .roles)) (table cs)))
-    (left o (t .sets) (column (λ x. x .set) (length (t .roles)) (table cs))) (left o (t .spans) (column (λ x. x .spans) (length (t .roles)) (table cs)))
-
-abbrev pub lastEnding : List Credential → Lent → Ending
-lastEnding cs t = endingBy cs t (lastReply cs t)
-
--- What working leaves in lists of one length: the columns of the table and its count, or an answer above the length, where the table is longer.
-pub record Worked (cs : List Credential) (size : ℕ) (roles sets spans : List ℕ) (r : ℕ) : Type 0 where
-  pub count : r ≤ size → r ≡ length (table cs)
-  pub byRole : r ≤ size → roles ≡ column (λ x. x .role) size (table cs)
-  pub bySet : r ≤ size → sets ≡ column (λ x. x .set) size (table cs)
-  pub bySpans : r ≤ size → spans ≡ column (λ x. x .spans) size (table cs)
-  pub over : size < r → size < length (table cs)
-
--- What loading and closing leave in the store: closed entries with nothing left to do, or too many.
-pub record Filled (cs : List Credential) (limit : ℕ) (keys found slots links done : List ℕ) (r : ℕ) : Type 0 where
-  pub held : r ≤ limit → Held keys found slots links done r
-  pub closed : r ≤ limit → Closed (bySpan cs) keys found done r
-  pub finished : r ≤ limit → Finished found done r
-  pub over : limit < r → TooMany (bySpan cs) limit

@@ -2,8 +2,9 @@
 ghost use mathlib.Core.Path.{_≡_};
 ghost use lib.ListN.{length, replicate};
 ghost use Rattle.policy.specs.Policy.{credentialsOf};
-ghost use Rattle.loading.specs.Loading.{Loadable, Blank};
-ghost use Rattle.completing.specs.Completing.{lent, oneLength, ending, completing, says, lastEnding, Worked, Filled};
+ghost use Rattle.loading.specs.Loading.{UsesLoaded};
+ghost use Rattle.completing.specs.Completing.{lent, oneLength, ending, completing, says};
+ghost use Rattle.completing.specs.Working.{lastEnding, Worked, Loadable, Blank, Filled};
 
 // The count of memberships valid at one minute or more, or a refusal.
 pub enum Completed {
@@ -11,190 +12,27 @@ pub enum Completed {
     Refused { number: u32, place: u32 },
 }
 
-fn room_for_keys() -> [u64; 1024]
-    ensures { λ r. ⌜ length r ≡ 1024 ⌝ }
+// Completes the table (document 01): the reply, and the three lists as the call leaves them.
+pub fn complete(file: &[u8], roles: &mut [u32], sets: &mut [u32], spans: &mut [u64]) -> Completed
+    ensures { λ r. ⌜ ending (says r) (now (roles .exit)) (now (sets .exit)) (now (spans .exit)) ≡ completing (now (file .entry)) (lent (now (roles .entry)) (now (sets .entry)) (now (spans .entry))) ⌝ }
 {
-    [0; 1024]
-}
-
-fn room_for_slots() -> [u16; 3072]
-    ensures { λ r. ⌜ r ≡ replicate 3072 0 ⌝ }
-{
-    [0; 3072]
-}
-
-fn room_for_links() -> [u16; 2048]
-    ensures { λ r. ⌜ r ≡ replicate 2048 0 ⌝ }
-{
-    [0; 2048]
-}
-
-fn room_for_lists() -> [u16; 2592]
-    ensures { λ r. ⌜ r ≡ replicate 2592 0 ⌝ }
-{
-    [0; 2592]
-}
-
-fn room_for_codes() -> [u32; 1024]
-    ensures { λ r. ⌜ length r ≡ 1024 ⌝ }
-{
-    [0; 1024]
-}
-
-fn room_for_valid() -> [u64; 512]
-    ensures { λ r. ⌜ length r ≡ 512 ⌝ }
-{
-    [0; 512]
-}
-
-// Loads the policy and closes what was loaded; an answer above the limit says that there are too many memberships.
-fn fill(
-    keys: &mut [u64; 1024],
-    found: &mut [u64; 1024],
-    slots: &mut [u16; 3072],
-    links: &mut [u16; 2048],
-    done: &mut [u64],
-    codes: &mut [u32; 1024],
-    valid: &mut [u64; 512],
-    lists: &mut [u16; 2592],
-    policy: &[u64; 512],
-    credentials: usize,
-    ends: &[u32; 64],
-    count: usize,
-    limit: usize,
-) -> usize
-    requires { ⌜ Loadable (now policy) credentials (now ends) count limit ⌝ ∗ ⌜ Blank (now keys) (now found) (now slots) (now links) (now codes) (now valid) (now lists) ⌝ ∗ ⌜ now done ≡ replicate limit 0 ⌝ }
-    ensures { λ r. ⌜ Filled (credentialsOf (now (policy .entry)) credentials) limit (now (keys .exit)) (now (found .exit)) (now (slots .exit)) (now (links .exit)) (now (done .exit)) r ⌝ }
-{
-    let a = loading::load(
-        policy,
-        credentials,
-        ends,
-        count,
-        keys,
-        found,
-        slots,
-        links,
-        codes,
-        valid,
-        lists,
-        limit,
-    );
-    let n = a.entries;
-    if limit < n {
-        return n;
+    let mut policy = policy::room();
+    let mut ends = ends::no_ends();
+    let s = ends::survey(&mut policy, &mut ends, file);
+    if s.number != 0 {
+        return Completed::Refused {
+            number: s.number,
+            place: s.place,
+        };
     }
-    closing::close(
-        keys,
-        found,
-        slots,
-        links,
-        done,
-        codes,
-        valid,
-        lists,
-        a.uses,
-        n,
-        limit,
-    )
-}
-
-// Fills the store and writes its rows. The lent spans serve as the done spans until they are written.
-fn work(
-    roles: &mut [u32],
-    sets: &mut [u32],
-    spans: &mut [u64],
-    keys: &mut [u64; 1024],
-    found: &mut [u64; 1024],
-    slots: &mut [u16; 3072],
-    links: &mut [u16; 2048],
-    codes: &mut [u32; 1024],
-    valid: &mut [u64; 512],
-    lists: &mut [u16; 2592],
-    policy: &[u64; 512],
-    credentials: usize,
-    ends: &[u32; 64],
-    count: usize,
-) -> usize
-    requires { ⌜ Loadable (now policy) credentials (now ends) count (length (now roles)) ⌝ ∗ ⌜ Blank (now keys) (now found) (now slots) (now links) (now codes) (now valid) (now lists) ⌝ ∗ ⌜ (length (now sets) ≡ length (now roles)) × (length (now spans) ≡ length (now roles)) ⌝ }
-    ensures { λ r. ⌜ Worked (credentialsOf (now (policy .entry)) credentials) (length (now (roles .entry))) (now (roles .exit)) (now (sets .exit)) (now (spans .exit)) r ⌝ }
-{
-    let limit = roles.len();
-    writing::clear64(spans);
-    let r = fill(
-        keys,
-        found,
-        slots,
-        links,
-        spans,
-        codes,
-        valid,
-        lists,
-        policy,
-        credentials,
-        ends,
-        count,
-        limit,
-    );
-    if limit < r {
-        return r;
+    if !of_one_length(roles, sets, spans) {
+        return Completed::Refused {
+            number: 9,
+            place: 0,
+        };
     }
-    writing::write_rows(keys, found, links, r, roles, sets, spans);
-    r
-}
-
-// With a working store of its own.
-fn run(
-    roles: &mut [u32],
-    sets: &mut [u32],
-    spans: &mut [u64],
-    policy: &[u64; 512],
-    credentials: usize,
-    ends: &[u32; 64],
-    count: usize,
-) -> usize
-    requires { ⌜ Loadable (now policy) credentials (now ends) count (length (now roles)) ⌝ ∗ ⌜ (length (now sets) ≡ length (now roles)) × (length (now spans) ≡ length (now roles)) ⌝ }
-    ensures { λ r. ⌜ Worked (credentialsOf (now (policy .entry)) credentials) (length (now (roles .entry))) (now (roles .exit)) (now (sets .exit)) (now (spans .exit)) r ⌝ }
-{
-    let mut keys = room_for_keys();
-    let mut found = room_for_keys();
-    let mut slots = room_for_slots();
-    let mut links = room_for_links();
-    let mut codes = room_for_codes();
-    let mut valid = room_for_valid();
-    let mut lists = room_for_lists();
-    work(
-        roles,
-        sets,
-        spans,
-        &mut keys,
-        &mut found,
-        &mut slots,
-        &mut links,
-        &mut codes,
-        &mut valid,
-        &mut lists,
-        policy,
-        credentials,
-        ends,
-        count,
-    )
-}
-
-fn of_one_length(roles: &[u32], sets: &[u32], spans: &[u64]) -> bool
-    ensures { λ r. ⌜ r ≡ oneLength (lent (now (roles .entry)) (now (sets .entry)) (now (spans .entry))) ⌝ }
-{
-    let n = roles.len();
-    (sets.len() == n) & (spans.len() == n) & ((1 <= n) & (n <= 1024))
-}
-
-// Sets the three lists to zeros.
-fn clear(roles: &mut [u32], sets: &mut [u32], spans: &mut [u64])
-    ensures { λ _. ⌜ now (roles .exit) ≡ replicate (length (now (roles .entry))) 0 ⌝ ∗ ⌜ now (sets .exit) ≡ replicate (length (now (sets .entry))) 0 ⌝ ∗ ⌜ now (spans .exit) ≡ replicate (length (now (spans .entry))) 0 ⌝ }
-{
-    writing::clear32(roles);
-    writing::clear32(sets);
-    writing::clear64(spans);
+    let count = ends::span_count(s.count);
+    finish(roles, sets, spans, &policy, s.credentials, &ends, count)
 }
 
 // Completes the table in lists of one length.
@@ -222,25 +60,147 @@ fn finish(
     Completed::Memberships(r as u32)
 }
 
-// Completes the table (document 01): the reply, and the three lists as the call leaves them.
-pub fn complete(file: &[u8], roles: &mut [u32], sets: &mut [u32], spans: &mut [u64]) -> Completed
-    ensures { λ r. ⌜ ending (says r) (now (roles .exit)) (now (sets .exit)) (now (spans .exit)) ≡ completing (now (file .entry)) (lent (now (roles .entry)) (now (sets .entry)) (now (spans .entry))) ⌝ }
+// Fills a store of its own and writes its rows; an answer above the lists' length says that there are too many memberships.
+fn run(
+    roles: &mut [u32],
+    sets: &mut [u32],
+    spans: &mut [u64],
+    policy: &[u64; 512],
+    credentials: usize,
+    ends: &[u32; 64],
+    count: usize,
+) -> usize
+    requires { ⌜ Loadable (now policy) credentials (now ends) count (length (now roles)) ⌝ ∗ ⌜ (length (now sets) ≡ length (now roles)) × (length (now spans) ≡ length (now roles)) ⌝ }
+    ensures { λ r. ⌜ Worked (credentialsOf (now (policy .entry)) credentials) (length (now (roles .entry))) (now (roles .exit)) (now (sets .exit)) (now (spans .exit)) r ⌝ }
 {
-    let mut policy = policy::room();
-    let mut ends = ends::no_ends();
-    let s = ends::survey(&mut policy, &mut ends, file);
-    if s.number != 0 {
-        return Completed::Refused {
-            number: s.number,
-            place: s.place,
-        };
+    let limit = roles.len();
+    let mut keys = store::room_for_keys();
+    let mut found = store::room_for_keys();
+    let mut slots = store::room_for_slots();
+    let mut links = store::room_for_links();
+    let r = fill(
+        &mut keys,
+        &mut found,
+        &mut slots,
+        &mut links,
+        policy,
+        credentials,
+        ends,
+        count,
+        limit,
+    );
+    if limit < r {
+        return r;
     }
-    if !of_one_length(roles, sets, spans) {
-        return Completed::Refused {
-            number: 9,
-            place: 0,
-        };
+    writing::write_rows(&keys, &found, &links, r, roles, sets, spans);
+    r
+}
+
+// Lists the uses of the policy and fills the store.
+fn fill(
+    keys: &mut [u64; 1024],
+    found: &mut [u64; 1024],
+    slots: &mut [u16; 3072],
+    links: &mut [u16; 2048],
+    policy: &[u64; 512],
+    credentials: usize,
+    ends: &[u32; 64],
+    count: usize,
+    limit: usize,
+) -> usize
+    requires { ⌜ Loadable (now policy) credentials (now ends) count limit ⌝ ∗ ⌜ Blank (now keys) (now found) (now slots) (now links) ⌝ }
+    ensures { λ r. ⌜ Filled (credentialsOf (now (policy .entry)) credentials) limit (now (keys .exit)) (now (found .exit)) (now (slots .exit)) (now (links .exit)) r ⌝ }
+{
+    let mut codes = rules::room_for_codes();
+    let mut valid = rules::room_for_valid();
+    let mut lists = rules::room_for_lists();
+    loading::load_uses(
+        &mut codes,
+        &mut valid,
+        &mut lists,
+        policy,
+        credentials,
+        ends,
+        count,
+    );
+    fill_by(
+        keys,
+        found,
+        slots,
+        links,
+        &codes,
+        &valid,
+        &lists,
+        policy,
+        credentials,
+        ends,
+        count,
+        limit,
+    )
+}
+
+// Loads the sets of the policy and closes what was loaded.
+fn fill_by(
+    keys: &mut [u64; 1024],
+    found: &mut [u64; 1024],
+    slots: &mut [u16; 3072],
+    links: &mut [u16; 2048],
+    codes: &[u32; 1024],
+    valid: &[u64; 512],
+    lists: &[u16; 3106],
+    policy: &[u64; 512],
+    credentials: usize,
+    ends: &[u32; 64],
+    count: usize,
+    limit: usize,
+) -> usize
+    requires { ⌜ Loadable (now policy) credentials (now ends) count limit ⌝ ∗ ⌜ Blank (now keys) (now found) (now slots) (now links) ⌝ ∗ ⌜ UsesLoaded (now policy) credentials (now ends) count (now codes) (now valid) (now lists) ⌝ }
+    ensures { λ r. ⌜ Filled (credentialsOf (now (policy .entry)) credentials) limit (now (keys .exit)) (now (found .exit)) (now (slots .exit)) (now (links .exit)) r ⌝ }
+{
+    let mut notes = store::room_for_notes();
+    let n = loading::load_sets(
+        keys,
+        found,
+        slots,
+        links,
+        &mut notes,
+        policy,
+        credentials,
+        ends,
+        count,
+        limit,
+    );
+    if limit < n {
+        return n;
     }
-    let count = ends::span_count(s.count);
-    finish(roles, sets, spans, &policy, s.credentials, &ends, count)
+    let mut done = store::room_for_keys();
+    closing::close(
+        keys,
+        found,
+        slots,
+        links,
+        &mut notes,
+        &mut done,
+        codes,
+        valid,
+        lists,
+        n,
+        limit,
+    )
+}
+
+fn of_one_length(roles: &[u32], sets: &[u32], spans: &[u64]) -> bool
+    ensures { λ r. ⌜ r ≡ oneLength (lent (now (roles .entry)) (now (sets .entry)) (now (spans .entry))) ⌝ }
+{
+    let n = roles.len();
+    (sets.len() == n) & (spans.len() == n) & ((1 <= n) & (n <= 1024))
+}
+
+// Sets the three lists to zeros.
+fn clear(roles: &mut [u32], sets: &mut [u32], spans: &mut [u64])
+    ensures { λ _. ⌜ now (roles .exit) ≡ replicate (length (now (roles .entry))) 0 ⌝ ∗ ⌜ now (sets .exit) ≡ replicate (length (now (sets .entry))) 0 ⌝ ∗ ⌜ now (spans .exit) ≡ replicate (length (now (spans .entry))) 0 ⌝ }
+{
+    writing::clear32(roles);
+    writing::clear32(sets);
+    writing::clear64(spans);
 }

@@ -8,7 +8,7 @@ use native.Mathlib.Omega.{arith}
 use lib.Dec.{T, ltb, lt→ltb}
 use lib.ListN.{length, getD, length-map}
 use Rattle.meaning.specs.Lists.{if, upFrom, below}
-use Rattle.meaning.specs.Credentials.{Body, Credential, covers, credentialAt, validAt}
+use Rattle.meaning.specs.Credentials.{Body, Credential, covers, validAt}
 use Rattle.meaning.specs.Sequence.{S}
 use Rattle.meaning.specs.Proofs.{Step, Shown, nothing, citesFirst, citesSecond, follows, citable, cited, showing, keeps, shownBy, allKeep, Proof}
 use Rattle.meaning.proofs.Tests.{and-in, eq-in}

@@ -2,14 +2,15 @@
 use mathlib.Core.Path.{_≡_}
 use mathlib.Core.Bool.{Bool, true, false}
 use mathlib.Core.List.{List, [], _++_, map}
-use Prim.Native.Nat.{ℕ, suc, _+_, _*_, _-_, _<_, max}
-use lib.Dec.{T, eqb, ltb}
+use Prim.Native.Nat.{ℕ, suc, _+_, _-_, _<_, max}
+use lib.Dec.{T, ltb}
 use lib.ListN.{length, getD, replicate}
 use Rattle.meaning.specs.Lists.{if}
 use Rattle.meaning.specs.Credentials.{Body, Credential, covers, credentialAt}
 use Rattle.meaning.specs.Members.{Membership, member}
 use Rattle.meaning.specs.Proofs.{Step, Shown, nothing, citesFirst, citesSecond, follows, shownBy, Proof, RestsOn}
 use Rattle.store.specs.Entries.{roleIn, setIn}
+use Rattle.store.specs.Notes.{word, levelOf}
 
 -- ---- proof steps by their position
 
@@ -44,15 +45,9 @@ module _ (cs : List Credential) (m : ℕ) (step : ℕ → Step) (shown : ℕ →
 
 -- ---- the entries of a query
 
--- Entry i has a key and four words of `notes`: its credential, one more than the first and than the second cited entry (0 where none is cited), its level.
-abbrev pub word : List ℕ → ℕ → ℕ → ℕ
-word notes i k = getD notes (4 * i + k) 0
-
+-- entry i as a proof step, and what it shows; its words cite entries by one more than their numbers
 abbrev pub stepOf : List ℕ → List ℕ → ℕ → Step
 stepOf keys notes i = record { credential = word notes i 0; first = word notes i 1 - 1; second = word notes i 2 - 1; set = setIn (getD keys i 0) }
-
-abbrev pub levelOf : List ℕ → ℕ → ℕ
-levelOf notes i = word notes i 3
 
 abbrev pub shownOf : List ℕ → List ℕ → ℕ → Shown
 shownOf keys notes i = record { role = roleIn (getD keys i 0); set = setIn (getD keys i 0); level = levelOf notes i }

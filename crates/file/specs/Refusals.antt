@@ -1,7 +1,10 @@
 -- Where each refusal is checked (document 01): rows of a table, and the first that holds.
-use mathlib.Core.Bool.{Bool, true, false}
+use mathlib.Core.Bool.{Bool, true, false, _||_}
 use mathlib.Core.List.{List, [], _∷_}
 use Prim.Native.Nat.{ℕ}
+use lib.Dec.{eqb}
+use lib.ListN.{length, replicate}
+use Rattle.meaning.specs.Lists.{if}
 
 -- what a call answers: its result, or a refusal's number and place only
 pub data Outcome (A : Type 0) : Type 0 where
@@ -26,6 +29,11 @@ n when b = n at 0 when b
 abbrev pub first : {A : Type 0} → List Row → A → Outcome A
 first [] a = done a
 first (r ∷ rows) a = elim (r .holds) [ true ↦ refused (r .number) (r .place) | false ↦ first rows a ]
+
+-- What a call leaves in a lent list: what it writes on success, zeros after 10 and 13, and otherwise what was there.
+abbrev pub left : {A : Type 0} → Outcome A → List ℕ → List ℕ → List ℕ
+left (done a) before written = written
+left (refused n p) before written = if (eqb n 10 || eqb n 13) (replicate (length before) 0) before
 
 -- number and place of an answer, 0 where it is no refusal
 abbrev pub numberOf : {A : Type 0} → Outcome A → ℕ

@@ -1,4 +1,2 @@
-pub mod Gained
-pub mod Premises
-pub mod Combining
+pub mod Moving
 pub mod Firings

@@ -1,332 +1,118 @@
-// What an entry gives as a premise of the uses of its families. In all functions b and h are the numbers of bodies and heads, which the contracts name.
-ghost use mathlib.Core.Path.{_≡_};
-ghost use mathlib.Core.Logic.{_⊎_};
-ghost use Prim.Native.Nat.{_+_, _%_, _<_, _≤_};
-ghost use lib.ListN.{length};
-ghost use Rattle.store.specs.Entries.{roleIn};
-ghost use Rattle.rules.specs.Uses.{Listed};
+// What an entry gives as a premise of the uses of its families.
+ghost use Prim.Native.Nat.{_+_, _≤_};
+ghost use lib.ListN.{getD};
+ghost use Rattle.rules.specs.Uses.{Listed, Formed, familyOf};
 ghost use Rattle.heads.specs.Gaining.{Gains};
-ghost use Rattle.heads.specs.Heads.{Ready, Headed};
-ghost use Rattle.firing.specs.Firing.{Held, Gained, Fires, Formed};
-ghost use Rattle.firing.specs.Steps.{familyOf, kindOf, WithOne, ByBody, Premise};
-use rules::Counts;
+ghost use Rattle.heads.specs.Heads.{Ready, Headed, FromHeads};
+ghost use Rattle.closure.specs.Closure.{Held};
+ghost use Rattle.premises.specs.Combining.{InFamily, ByCode, Offers};
+ghost use Rattle.premises.specs.Moves.{Firing};
+ghost use Rattle.firing.specs.Firing.{Fires, FromFamily};
+use heads::Gift;
+use pairs::Plan;
+use premises::Turn;
 
-fn wide(x: u16) -> usize
-    ensures { λ r. ⌜ r ≡ x ⌝ }
-{
-    x as usize
-}
-
-// From the one entry with a key, if there is one.
-fn with_one(
-    keys: &mut [u64],
-    spans: &mut [u64],
-    slots: &mut [u16],
-    links: &mut [u16],
-    done: &[u64],
-    codes: &[u32],
-    valid: &[u64],
-    lists: &[u16],
-    b: usize,
-    h: usize,
-    n: usize,
-    limit: usize,
-    body: usize,
-    key: u64,
-    set: u64,
-    d: u64,
-) -> usize
-    requires { ⌜ Ready (now keys) (now spans) (now slots) (now links) n limit (now codes) (now valid) (now lists) b h body ⌝ ∗ ⌜ (n ≤ length (now done)) × (set < 4294967296) ⌝ }
-    ensures { λ r. ⌜ Gains limit (now (keys .entry)) (now (spans .entry)) n (Headed (now (codes .entry)) (now (valid .entry)) h body (WithOne (now (keys .entry)) (now (done .entry)) n key set d)) (now (keys .exit)) (now (spans .exit)) (now (slots .exit)) (now (links .exit)) r ⌝ }
-{
-    let p = store::find(keys, slots, n, key);
-    let found = wide(slots[p]);
-    if found == 0 {
-        return n;
-    }
-    heads::add_heads(
-        keys,
-        spans,
-        slots,
-        links,
-        codes,
-        valid,
-        lists,
-        b,
-        h,
-        n,
-        limit,
-        body,
-        set,
-        d & done[found - 1],
-    )
-}
-
-// From the entry with the key e, in spans d, by a link.
-fn by_link(
-    keys: &mut [u64],
-    spans: &mut [u64],
-    slots: &mut [u16],
-    links: &mut [u16],
-    done: &[u64],
-    codes: &[u32],
-    valid: &[u64],
-    lists: &[u16],
-    b: usize,
-    h: usize,
-    n: usize,
-    limit: usize,
-    body: usize,
-    e: u64,
-    d: u64,
-) -> usize
-    requires { ⌜ Ready (now keys) (now spans) (now slots) (now links) n limit (now codes) (now valid) (now lists) b h body ⌝ ∗ ⌜ n ≤ length (now done) ⌝ ∗ ⌜ Premise (now codes) b h e (familyOf (now codes) body) ⌝ ∗ ⌜ kindOf (now codes) body ≡ 2 ⌝ }
-    ensures { λ r. ⌜ Gains limit (now (keys .entry)) (now (spans .entry)) n (Headed (now (codes .entry)) (now (valid .entry)) h body (ByBody (now (codes .entry)) body (now (keys .entry)) (now (done .entry)) n e d)) (now (keys .exit)) (now (spans .exit)) (now (slots .exit)) (now (links .exit)) r ⌝ }
-{
-    let code = codes[body];
-    let other = code % 1024;
-    let x = e % 4294967296;
-    if 8388608 <= code {
-        let key = (other as u64) * 4294967296 + (1u64 << (e / 4294967296 / 32));
-        return with_one(
-            keys,
-            spans,
-            slots,
-            links,
-            done,
-            codes,
-            valid,
-            lists,
-            b,
-            h,
-            n,
-            limit,
-            body,
-            key,
-            x,
-            d,
-        );
-    }
-    let set = x as u32;
-    if u32::count_ones(set) != 1 {
-        return n;
-    }
-    let role = (u32::trailing_zeros(set) * 32 + other) as usize;
-    pairs::with_each(
-        keys,
-        spans,
-        slots,
-        links,
-        done,
-        codes,
-        valid,
-        lists,
-        b,
-        h,
-        n,
-        limit,
-        body,
-        2,
-        role,
-        x,
-        d,
-    )
-}
-
-// The same by a body of any kind.
-fn by_kind(
-    keys: &mut [u64],
-    spans: &mut [u64],
-    slots: &mut [u16],
-    links: &mut [u16],
-    done: &[u64],
-    codes: &[u32],
-    valid: &[u64],
-    lists: &[u16],
-    b: usize,
-    h: usize,
-    n: usize,
-    limit: usize,
-    body: usize,
-    e: u64,
-    d: u64,
-) -> usize
-    requires { ⌜ Ready (now keys) (now spans) (now slots) (now links) n limit (now codes) (now valid) (now lists) b h body ⌝ ∗ ⌜ n ≤ length (now done) ⌝ ∗ ⌜ Premise (now codes) b h e (familyOf (now codes) body) ⌝ }
-    ensures { λ r. ⌜ Gains limit (now (keys .entry)) (now (spans .entry)) n (Headed (now (codes .entry)) (now (valid .entry)) h body (ByBody (now (codes .entry)) body (now (keys .entry)) (now (done .entry)) n e d)) (now (keys .exit)) (now (spans .exit)) (now (slots .exit)) (now (links .exit)) r ⌝ }
-{
-    let code = codes[body];
-    let kind = code / 1024 % 8;
-    let other = code % 1024;
-    let x = e % 4294967296;
-    if kind == 1 {
-        return heads::add_heads(
-            keys,
-            spans,
-            slots,
-            links,
-            codes,
-            valid,
-            lists,
-            b,
-            h,
-            n,
-            limit,
-            body,
-            x,
-            d,
-        );
-    }
-    if kind == 2 {
-        return by_link(
-            keys,
-            spans,
-            slots,
-            links,
-            done,
-            codes,
-            valid,
-            lists,
-            b,
-            h,
-            n,
-            limit,
-            body,
-            e,
-            d,
-        );
-    }
-    if kind == 3 {
-        let key = (other as u64) * 4294967296 + x;
-        return with_one(
-            keys,
-            spans,
-            slots,
-            links,
-            done,
-            codes,
-            valid,
-            lists,
-            b,
-            h,
-            n,
-            limit,
-            body,
-            key,
-            x,
-            d,
-        );
-    }
-    pairs::with_each(
-        keys,
-        spans,
-        slots,
-        links,
-        done,
-        codes,
-        valid,
-        lists,
-        b,
-        h,
-        n,
-        limit,
-        body,
-        kind,
-        other as usize,
-        x,
-        d,
-    )
-}
-
-// The same, in those spans alone in which the body is valid.
-fn fire_body(
-    keys: &mut [u64],
-    spans: &mut [u64],
-    slots: &mut [u16],
-    links: &mut [u16],
-    done: &[u64],
-    codes: &[u32],
-    valid: &[u64],
-    lists: &[u16],
-    b: usize,
-    h: usize,
-    n: usize,
-    limit: usize,
-    body: usize,
-    e: u64,
-    d: u64,
-) -> usize
-    requires { ⌜ Ready (now keys) (now spans) (now slots) (now links) n limit (now codes) (now valid) (now lists) b h body ⌝ ∗ ⌜ n ≤ length (now done) ⌝ ∗ ⌜ Premise (now codes) b h e (familyOf (now codes) body) ⌝ }
-    ensures { λ r. ⌜ Gains limit (now (keys .entry)) (now (spans .entry)) n (Headed (now (codes .entry)) (now (valid .entry)) h body (ByBody (now (codes .entry)) body (now (keys .entry)) (now (done .entry)) n e d)) (now (keys .exit)) (now (spans .exit)) (now (slots .exit)) (now (links .exit)) r ⌝ }
-{
-    let m = d & heads::body_spans(valid, lists, b, h, body);
-    if m == 0 {
-        return n;
-    }
-    by_kind(
-        keys,
-        spans,
-        slots,
-        links,
-        done,
-        codes,
-        valid,
-        lists,
-        b,
-        h,
-        n,
-        limit,
-        body,
-        e,
-        m,
-    )
-}
-
-// From the entry with the key e, in spans d, by every body of a family.
+// Adds what entry e gives by every body of a family.
 pub fn fire(
-    keys: &mut [u64],
-    spans: &mut [u64],
-    slots: &mut [u16],
-    links: &mut [u16],
-    done: &[u64],
-    codes: &[u32],
-    valid: &[u64],
-    lists: &[u16],
-    c: Counts,
+    keys: &mut [u64; 1024],
+    spans: &mut [u64; 1024],
+    slots: &mut [u16; 3072],
+    links: &mut [u16; 2048],
+    notes: &mut [u16; 4096],
+    done: &[u64; 1024],
+    codes: &[u32; 1024],
+    valid: &[u64; 512],
+    lists: &[u16; 3106],
     n: usize,
-    limit: usize,
+    t: Turn,
     family: usize,
-    e: u64,
-    d: u64,
 ) -> usize
-    requires { ⌜ Held (now keys) (now spans) (now slots) (now links) (now done) n ⌝ ∗ ⌜ (n ≤ limit) × (limit ≤ 1024) × (limit ≤ length (now done)) ⌝ ∗ ⌜ Listed (now codes) (now valid) (now lists) (c .bodies) (c .heads) ⌝ ∗ ⌜ Formed (now codes) (c .bodies) (c .heads) ⌝ ∗ ⌜ (roleIn e < 1024) × ((family ≡ roleIn e) ⊎ (family ≡ 1024 + roleIn e % 32)) ⌝ }
-    ensures { λ r. ⌜ Gained limit (now (keys .entry)) (now (spans .entry)) n (Fires (now (codes .entry)) (now (valid .entry)) (c .bodies) (c .heads) (now (keys .entry)) (now (done .entry)) n e d family) (now (keys .exit)) (now (spans .exit)) (now (slots .exit)) (now (links .exit)) (now (done .entry)) r ⌝ }
+    requires { ⌜ Held (now keys) (now spans) (now slots) (now links) (now notes) (now done) n ⌝ ∗ ⌜ (n ≤ t .limit) × (t .limit ≤ 1024) ⌝ ∗ ⌜ Listed (now codes) (now valid) (now lists) × Formed (now codes) (now lists) ⌝ ∗ ⌜ Firing (now keys) (now done) n t ⌝ ∗ ⌜ InFamily (now keys) (t .e) family ⌝ }
+    ensures { λ r. ⌜ Gains (t .limit) (now (keys .entry)) (now (spans .entry)) (now (notes .entry)) n (Fires (now (codes .entry)) (now (valid .entry)) (now (lists .entry)) (now (keys .entry)) (now (done .entry)) n (t .e) (t .spans) family) (FromFamily (now (codes .entry)) (now (lists .entry)) (now (keys .entry)) (now (done .entry)) n (t .e) family) (now (keys .exit)) (now (spans .exit)) (now (slots .exit)) (now (links .exit)) (now (notes .exit)) r ⌝ }
 {
-    let b = c.bodies;
-    let h = c.heads;
+    let limit = t.limit;
     let mut r = n;
-    let mut at = wide(lists[512 + family]);
+    let mut at = rules::first_body(lists, family);
     while at != 0 {
         r = fire_body(
             keys,
             spans,
             slots,
             links,
+            notes,
             done,
             codes,
             valid,
             lists,
-            b,
-            h,
             r,
-            limit,
+            t,
             at - 1,
-            e,
-            d,
         );
         if limit < r {
             return r;
         }
-        at = wide(lists[at - 1]);
+        at = rules::next_body(lists, at);
     }
     r
+}
+
+// Adds what entry e gives by one body, in those spans alone in which some head of it is valid.
+fn fire_body(
+    keys: &mut [u64; 1024],
+    spans: &mut [u64; 1024],
+    slots: &mut [u16; 3072],
+    links: &mut [u16; 2048],
+    notes: &mut [u16; 4096],
+    done: &[u64; 1024],
+    codes: &[u32; 1024],
+    valid: &[u64; 512],
+    lists: &[u16; 3106],
+    n: usize,
+    t: Turn,
+    body: usize,
+) -> usize
+    requires { ⌜ Ready (now keys) (now spans) (now slots) (now links) (now notes) n (t .limit) (now codes) (now valid) (now lists) body ⌝ ∗ ⌜ Firing (now keys) (now done) n t ⌝ ∗ ⌜ InFamily (now keys) (t .e) (familyOf (now codes) body) ⌝ ∗ ⌜ Formed (now codes) (now lists) ⌝ }
+    ensures { λ r. ⌜ Gains (t .limit) (now (keys .entry)) (now (spans .entry)) (now (notes .entry)) n (Headed (now (codes .entry)) (now (valid .entry)) (now (lists .entry)) body (ByCode (now (keys .entry)) (now (done .entry)) n (t .e) (t .spans) (getD (now (codes .entry)) body 0))) (FromHeads (now (codes .entry)) (now (lists .entry)) body (t .e + 1) (Offers (now (keys .entry)) (now (done .entry)) n (t .e) (getD (now (codes .entry)) body 0))) (now (keys .exit)) (now (spans .exit)) (now (slots .exit)) (now (links .exit)) (now (notes .exit)) r ⌝ }
+{
+    let d = t.spans & heads::body_spans(valid, lists, body);
+    if d == 0 {
+        return n;
+    }
+    let m = premises::plan(keys, slots, links, done, codes[body], n, t, d);
+    let offer = m.offer;
+    if offer.spans == 0 {
+        return n;
+    }
+    let own = (t.e + 1) as u16;
+    if m.each {
+        let p = Plan {
+            limit: t.limit,
+            body,
+            start: m.start,
+            own,
+            offer,
+        };
+        return pairs::with_each(
+            keys,
+            spans,
+            slots,
+            links,
+            notes,
+            done,
+            codes,
+            valid,
+            lists,
+            n,
+            p,
+        );
+    }
+    let g = Gift {
+        limit: t.limit,
+        body,
+        set: offer.set,
+        spans: offer.spans,
+        own,
+        other: m.other,
+    };
+    heads::add_heads(keys, spans, slots, links, notes, codes, valid, lists, n, g)
 }

@@ -6,7 +6,7 @@ use Prim.Native.Nat.{ℕ, _-_, _≤_, _<_, zero-le}
 use native.Mathlib.Omega.{arith}
 use Rattle.store.specs.Entries.{latest}
 use Rattle.store.proofs.Chains.{latest-below, latest-some, latest-none}
-use Rattle.heads.specs.Gaining.{Spanned, Kept, Gains}
+use Rattle.heads.specs.Gaining.{Spanned, Origin, Kept, Gains}
 use Rattle.heads.specs.Walks.{On, From, Along}
 use Rattle.heads.proofs.Gaining.{below-or-not, gains-none, gains-same, gains-over, gains-then}
 
@@ -46,27 +46,27 @@ module _ (family : ℕ → ℕ) (f count : ℕ) where
     pub from-this : (c d : ℕ) → (c ≡ 0 → ⊥) → d ≤ c - 1 → On family f count c → (k s : ℕ) → G (c - 1) k s → From family f count d G k s
     from-this c d nz l on k s g = let o = on nz in record { item = c - 1; past = l; low = o .0; of = o .1; gives = g }
 
-module _ {limit : ℕ} {keys spans : List ℕ} {n : ℕ} {family : ℕ → ℕ} {f count : ℕ} {G : ℕ → Spanned} where
-  pub along-start : {slots links : List ℕ} {c : ℕ} → Kept keys spans slots links n → n ≤ limit → c ≡ latest family f count → Along limit keys spans n family f count G keys spans slots links n c
+module _ {limit : ℕ} {keys spans notes : List ℕ} {n : ℕ} {family : ℕ → ℕ} {f count : ℕ} {G : ℕ → Spanned} {By : Origin} where
+  pub along-start : {slots links : List ℕ} {c : ℕ} → Kept keys spans slots links notes n → n ≤ limit → c ≡ latest family f count → Along limit keys spans notes n family f count G By keys spans slots links notes n c
   along-start {c = c} kept few e =
       record { few = few; gains = gains-none kept few (from-none family f count G c e); on = on-latest family f count c count (omega arith) e }
 
-  module _ {keys′ spans′ slots′ links′ : List ℕ} {r c : ℕ} (a : Along limit keys spans n family f count G keys′ spans′ slots′ links′ r c) where
-    pub along-end : c ≡ 0 → Gains limit keys spans n (From family f count 0 G) keys′ spans′ slots′ links′ r
-    along-end e = subst (λ (x : ℕ). Gains limit keys spans n (From family f count x G) keys′ spans′ slots′ links′ r) e (a .gains)
+  module _ {keys′ spans′ slots′ links′ notes′ : List ℕ} {r c : ℕ} (a : Along limit keys spans notes n family f count G By keys′ spans′ slots′ links′ notes′ r c) where
+    pub along-end : c ≡ 0 → Gains limit keys spans notes n (From family f count 0 G) By keys′ spans′ slots′ links′ notes′ r
+    along-end e = subst (λ (x : ℕ). Gains limit keys spans notes n (From family f count x G) By keys′ spans′ slots′ links′ notes′ r) e (a .gains)
 
-    module _ {keys″ spans″ slots″ links″ : List ℕ} {t : ℕ} {New : Spanned} (nz : c ≡ 0 → ⊥) (g : Gains limit keys′ spans′ r New keys″ spans″ slots″ links″ t) (to : (k s : ℕ) → New k s → G (c - 1) k s) where
+    module _ {keys″ spans″ slots″ links″ notes″ : List ℕ} {t : ℕ} {New : Spanned} (nz : c ≡ 0 → ⊥) (g : Gains limit keys′ spans′ notes′ r New By keys″ spans″ slots″ links″ notes″ t) (to : (k s : ℕ) → New k s → G (c - 1) k s) where
       part : (d : ℕ) → d ≤ c - 1 → (k s : ℕ) → From family f count c G k s ⊎ New k s → From family f count d G k s
       part d l k s (inl w) = from-more family f count G c d (omega arith) k s w
       part d l k s (inr w) = from-this family f count G c d nz l (a .on) k s (to k s w)
 
-      both : Gains limit keys spans n (λ k s. From family f count c G k s ⊎ New k s) keys″ spans″ slots″ links″ t
+      both : Gains limit keys spans notes n (λ k s. From family f count c G k s ⊎ New k s) By keys″ spans″ slots″ links″ notes″ t
       both = gains-then (a .gains) (a .few) g
 
-      pub along-over : limit < t → Gains limit keys spans n (From family f count 0 G) keys″ spans″ slots″ links″ t
+      pub along-over : limit < t → Gains limit keys spans notes n (From family f count 0 G) By keys″ spans″ slots″ links″ notes″ t
       along-over l = gains-over (part 0 zero-le) l both
 
-      pub along-next : {d : ℕ} → ((k s : ℕ) → G (c - 1) k s → New k s) → t ≤ limit → d ≡ latest family f (c - 1) → Along limit keys spans n family f count G keys″ spans″ slots″ links″ t d
+      pub along-next : {d : ℕ} → ((k s : ℕ) → G (c - 1) k s → New k s) → t ≤ limit → d ≡ latest family f (c - 1) → Along limit keys spans notes n family f count G By keys″ spans″ slots″ links″ notes″ t d
       along-next {d} back l e =
           let o = a .on nz in
           record {

@@ -1,102 +1,117 @@
-// Adding sets to the heads of a body. In all functions b and h are the numbers of bodies and heads, which the contracts name.
+// Adding sets to the heads of a body, with a note of how each new entry came about.
 ghost use mathlib.Core.Path.{_≡_};
 ghost use mathlib.Core.List.{List};
 ghost use Prim.Native.Nat.{ℕ, _<_, _≤_};
 ghost use lib.ListN.{length};
 ghost use Rattle.rules.specs.Uses.{Listed};
+ghost use Rattle.store.specs.Notes.{noted, Leveled};
 ghost use Rattle.heads.specs.Gaining.{Kept, Gains};
-ghost use Rattle.heads.specs.Heads.{Ready, One, ByHead, Headed, Coverings};
+ghost use Rattle.heads.specs.Heads.{Ready, One, ByHead, Headed, Coverings, credentialBy, firstBy, secondBy, FromHead, FromHeads, TheOne};
 
-fn wide(x: u16) -> usize
-    ensures { λ r. ⌜ r ≡ x ⌝ }
-{
-    x as usize
+// A set for the heads of a body, in some spans; the words of the entry that gives it and of its partner, each one more than the entry's number, 0 where there is
+// no partner. A new entry past the limit is not added.
+pub struct Gift {
+    pub limit: usize,
+    pub body: usize,
+    pub set: u64,
+    pub spans: u64,
+    pub own: u16,
+    pub other: u16,
 }
 
-// The spans in which some head of a body is valid.
-pub fn body_spans(valid: &[u64], lists: &[u16], b: usize, h: usize, body: usize) -> u64
-    requires { ⌜ ((codes : List ℕ) × Listed codes (now valid) (now lists) b h) ⌝ ∗ ⌜ body < 512 ⌝ }
-    ensures { λ r. ⌜ Coverings (now (valid .entry)) (now (lists .entry)) b h body r ⌝ }
-{
-    let mut all: u64 = 0;
-    let mut at = wide(lists[2080 + body]);
-    while at != 0 {
-        all = all | valid[at - 1];
-        at = wide(lists[1567 + at]);
-    }
-    all
-}
-
-// Adds a set in spans m to head i.
-fn add_head(
-    keys: &mut [u64],
-    spans: &mut [u64],
-    slots: &mut [u16],
-    links: &mut [u16],
-    codes: &[u32],
-    valid: &[u64],
-    n: usize,
-    limit: usize,
-    i: usize,
-    set: u64,
-    m: u64,
-) -> usize
-    requires { ⌜ Kept (now keys) (now spans) (now slots) (now links) n ⌝ ∗ ⌜ (n ≤ limit) × (limit ≤ 1024) ⌝ ∗ ⌜ (length (now codes) ≡ 1024) × (length (now valid) ≡ 512) × (i < 512) × (set < 4294967296) ⌝ }
-    ensures { λ r. ⌜ Gains limit (now (keys .entry)) (now (spans .entry)) n (ByHead (now (codes .entry)) (now (valid .entry)) set m i) (now (keys .exit)) (now (spans .exit)) (now (slots .exit)) (now (links .exit)) r ⌝ }
-{
-    let head = (codes[512 + i] % 1024) as u64;
-    store::add(
-        keys,
-        spans,
-        slots,
-        links,
-        n,
-        limit,
-        head * 4294967296 + set,
-        m & valid[i],
-    )
-}
-
-// Adds a set in spans m to every head of a body.
+// Adds a set to every head of a body.
 pub fn add_heads(
-    keys: &mut [u64],
-    spans: &mut [u64],
-    slots: &mut [u16],
-    links: &mut [u16],
-    codes: &[u32],
-    valid: &[u64],
-    lists: &[u16],
-    b: usize,
-    h: usize,
+    keys: &mut [u64; 1024],
+    spans: &mut [u64; 1024],
+    slots: &mut [u16; 3072],
+    links: &mut [u16; 2048],
+    notes: &mut [u16; 4096],
+    codes: &[u32; 1024],
+    valid: &[u64; 512],
+    lists: &[u16; 3106],
     n: usize,
-    limit: usize,
-    body: usize,
-    set: u64,
-    m: u64,
+    g: Gift,
 ) -> usize
-    requires { ⌜ Ready (now keys) (now spans) (now slots) (now links) n limit (now codes) (now valid) (now lists) b h body ⌝ ∗ ⌜ set < 4294967296 ⌝ }
-    ensures { λ r. ⌜ Gains limit (now (keys .entry)) (now (spans .entry)) n (Headed (now (codes .entry)) (now (valid .entry)) h body (One set m)) (now (keys .exit)) (now (spans .exit)) (now (slots .exit)) (now (links .exit)) r ⌝ }
+    requires { ⌜ Ready (now keys) (now spans) (now slots) (now links) (now notes) n (g .limit) (now codes) (now valid) (now lists) (g .body) ⌝ ∗ ⌜ (g .set < 4294967296) × (g .own ≤ n) × (g .other ≤ n) ⌝ }
+    ensures { λ r. ⌜ Gains (g .limit) (now (keys .entry)) (now (spans .entry)) (now (notes .entry)) n (Headed (now (codes .entry)) (now (valid .entry)) (now (lists .entry)) (g .body) (One (g .set) (g .spans))) (FromHeads (now (codes .entry)) (now (lists .entry)) (g .body) (g .own) (TheOne (g .set) (g .other))) (now (keys .exit)) (now (spans .exit)) (now (slots .exit)) (now (links .exit)) (now (notes .exit)) r ⌝ }
 {
+    let limit = g.limit;
     let mut r = n;
-    let mut at = wide(lists[2080 + body]);
+    let mut at = rules::first_head(lists, g.body);
     while at != 0 {
         r = add_head(
             keys,
             spans,
             slots,
             links,
+            notes,
             codes,
             valid,
+            lists,
             r,
-            limit,
+            g,
             at - 1,
-            set,
-            m,
         );
         if limit < r {
             return r;
         }
-        at = wide(lists[1567 + at]);
+        at = rules::next_head(lists, at);
     }
     r
+}
+
+// Adds a set to head i.
+pub fn add_head(
+    keys: &mut [u64; 1024],
+    spans: &mut [u64; 1024],
+    slots: &mut [u16; 3072],
+    links: &mut [u16; 2048],
+    notes: &mut [u16; 4096],
+    codes: &[u32; 1024],
+    valid: &[u64; 512],
+    lists: &[u16; 3106],
+    n: usize,
+    g: Gift,
+    i: usize,
+) -> usize
+    requires { ⌜ Kept (now keys) (now spans) (now slots) (now links) (now notes) n ⌝ ∗ ⌜ (n ≤ g .limit) × (g .limit ≤ 1024) × (i < 512) ⌝ ∗ ⌜ (g .set < 4294967296) × (g .own ≤ n) × (g .other ≤ n) ⌝ }
+    ensures { λ r. ⌜ Gains (g .limit) (now (keys .entry)) (now (spans .entry)) (now (notes .entry)) n (ByHead (now (codes .entry)) (now (valid .entry)) (g .set) (g .spans) i) (FromHead (now (codes .entry)) (now (lists .entry)) (g .own) (g .other) (g .set) i) (now (keys .exit)) (now (spans .exit)) (now (slots .exit)) (now (links .exit)) (now (notes .exit)) r ⌝ }
+{
+    let limit = g.limit;
+    let key = store::key_of(rules::head_role(codes, i), g.set);
+    let r = store::add(keys, spans, slots, links, n, limit, key, g.spans & valid[i]);
+    if limit < r {
+        return r;
+    }
+    if r == n {
+        return r;
+    }
+    note_head(notes, n, rules::source_of(lists, i), g.own, g.other);
+    r
+}
+
+// The spans in which some head of a body is valid.
+pub fn body_spans(valid: &[u64; 512], lists: &[u16; 3106], body: usize) -> u64
+    requires { ⌜ ((codes : List ℕ) × Listed codes (now valid) (now lists)) ⌝ ∗ ⌜ body < 512 ⌝ }
+    ensures { λ r. ⌜ Coverings (now (valid .entry)) (now (lists .entry)) body r ⌝ }
+{
+    let mut all: u64 = 0;
+    let mut at = rules::first_head(lists, body);
+    while at != 0 {
+        all = all | valid[at - 1];
+        at = rules::next_head(lists, at);
+    }
+    all
+}
+
+// Notes entry n by the source of a head.
+fn note_head(notes: &mut [u16; 4096], n: usize, source: u16, own: u16, other: u16)
+    requires { ⌜ (length (now notes) ≡ 4096) × (n < 1024) × (own ≤ n) × (other ≤ n) ⌝ ∗ ⌜ ((i : ℕ) → i < n → Leveled (now notes) i) ⌝ }
+    ensures { λ _. ⌜ now (notes .exit) ≡ noted (now (notes .entry)) n (credentialBy source) (firstBy source own other) (secondBy source own other) ⌝ }
+{
+    if source < 256 {
+        store::note(notes, n, source, own, other);
+    } else {
+        store::note(notes, n, source - 256, other, own);
+    }
 }

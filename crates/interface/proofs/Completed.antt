@@ -9,7 +9,7 @@ use lib.ListN.{length}
 use Rattle.meaning.specs.Lists.{if}
 use Rattle.meaning.specs.Table.{Row, table}
 use Rattle.meaning.proofs.Tests.{and-right, is-true}
-use Rattle.file.specs.Refusals.{Outcome, done, _when_}
+use Rattle.file.specs.Refusals.{Outcome, done, _when_, left}
 use Rattle.file.specs.Format.{credentials}
 use Rattle.file.specs.Reading.{between, reading}
 use Rattle.file.specs.Conditions.{Accepted}
@@ -19,7 +19,7 @@ use Rattle.file.proofs.Accepted.{accepted-fits}
 use Rattle.ends.proofs.Surveying.{reading-numbered}
 use Rattle.asking.proofs.Asked.{all-left, all-right}
 use Rattle.writing.specs.Columns.{column}
-use Rattle.completing.specs.Completing.{Lent, lentRow, fullRow, replyTo, left, ending, completing}
+use Rattle.completing.specs.Completing.{Lent, lentRow, fullRow, replyTo, ending, completing}
 use Rattle.codec.specs.Bytes.{bytesOf, entries}
 use Rattle.codec.proofs.Entries.{length-entries}
 use Rattle.replies.specs.Interface.{word, notWhole, entryCount}

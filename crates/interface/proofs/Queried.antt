@@ -9,7 +9,7 @@ use borrow.Author.Tests.{eq-eqb}
 use lib.ListN.{length, replicate, length-append, length-map, length-replicate}
 use Rattle.meaning.specs.Lists.{if}
 use Rattle.meaning.specs.Proofs.{Step}
-use Rattle.file.specs.Refusals.{Outcome, done}
+use Rattle.file.specs.Refusals.{Outcome, done, left}
 use Rattle.file.specs.Format.{credentials}
 use Rattle.file.specs.Reading.{between}
 use Rattle.file.specs.Conditions.{Accepted}
@@ -17,7 +17,6 @@ use Rattle.file.proofs.Claims.{as-many-credentials}
 use Rattle.file.proofs.Accepted.{accepted-fits}
 use Rattle.asking.specs.Asking.{Request, StepLists, stepLists, size, oneLength}
 use Rattle.derivation.specs.Derivation.{words}
-use Rattle.completing.specs.Completing.{left}
 use Rattle.querying.specs.Querying as Q
 use Rattle.querying.specs.Querying.{Counts, counts, replyWith, querying, Queried}
 use Rattle.checking.specs.Checking.{checking}

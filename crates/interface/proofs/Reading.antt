@@ -8,9 +8,8 @@ use lib.Dec.{T, eqb, T-not}
 use lib.ListN.{length, getD, replicate, length-replicate}
 use Rattle.meaning.specs.Lists.{if}
 use Rattle.meaning.proofs.Tests.{and-left, and-right, eq-in}
-use Rattle.file.specs.Refusals.{Row, Outcome, done, refused, first}
+use Rattle.file.specs.Refusals.{Row, Outcome, done, refused, first, left}
 use Rattle.file.proofs.First.{numbered}
-use Rattle.completing.specs.Completing.{left}
 use Rattle.codec.specs.Bytes.{entry, bytesOf, firstEntries, entries}
 use Rattle.codec.proofs.Entries.{length-bytesOf, first-bytesOf, bytesOf-zeros}
 use Rattle.replies.specs.Interface.{word}

@@ -15,13 +15,12 @@ use Rattle.meaning.proofs.Tests.{is-true, is-false}
 use Rattle.meaning.proofs.OrderLaws.{has-in, has-out}
 use Rattle.meaning.proofs.Rows.{members-derivable, valid-fits}
 use Rattle.meaning.proofs.Least.{provable-derivable, least-counted, proof-bound}
-use Rattle.file.specs.Refusals.{Outcome, done, refused, first}
+use Rattle.file.specs.Refusals.{Outcome, done, refused, first, left}
 use Rattle.file.specs.Format.{credentials}
 use Rattle.file.specs.Reading.{between}
 use Rattle.asking.specs.Asking.{Request, StepLists, stepLists, stepIn, stepsIn, size, oneLength, Askable}
 use Rattle.asking.proofs.Asked.{askable-passes}
 use Rattle.derivation.specs.Derivation.{HandedOut, words}
-use Rattle.completing.specs.Completing.{left}
 use Rattle.querying.specs.Querying.{Counts, counts, fullRow, noneRow, levelFor, replyWith, Ending, ending, querying, Queried}
 use Rattle.querying.proofs.Working.{same-lengths}
 use Rattle.checking.specs.Checking.{checking}

@@ -19,7 +19,7 @@ use Rattle.meaning.proofs.SortLaws.{Within, within-length}
 use Rattle.meaning.proofs.OrderLaws.{memberships}
 use Rattle.meaning.proofs.Least.{provable-derivable}
 use Rattle.meaning.proofs.Rows.{key, members-ascending, members-derivable, written-at, written-derivable, table-ascending}
-use Rattle.file.specs.Refusals.{Outcome, done, refused, first}
+use Rattle.file.specs.Refusals.{Outcome, done, refused, first, left}
 use Rattle.file.specs.Format.{credentials}
 use Rattle.file.specs.Reading.{reading}
 use Rattle.file.specs.Conditions.{Accepted}
@@ -30,7 +30,7 @@ use Rattle.asking.specs.Asking.{Request}
 use Rattle.asking.proofs.Asked.{all-left, all-right}
 use Rattle.writing.specs.Columns.{column}
 use Rattle.writing.proofs.Gathering.{keys-ascending}
-use Rattle.completing.specs.Completing.{Lent, lentRow, fullRow, replyTo, left, Ending, ending, completing}
+use Rattle.completing.specs.Completing.{Lent, lentRow, fullRow, replyTo, Ending, ending, completing}
 use Rattle.joint.specs.Joint.{rowsIn, InWrittenValidity, SomeProof}
 use Rattle.joint.proofs.Lists.{positions, column-at}
 

@@ -1,96 +1,129 @@
--- Uses that are added one after another: the lists stay formed, and exactly these uses are new.
---
-use mathlib.Core.Path.{_≡_, ap, _∙_}
+-- Uses that are added one after another: what was listed stays, exactly these uses are new, and each new head has its source.
+use mathlib.Core.Path.{_≡_, refl, _∙_, subst⁻¹}
 use mathlib.Core.Logic.{_⊎_, inl, inr, _↔_}
 use mathlib.Core.List.{List}
 use Prim.Native.Nat.{ℕ, _≤_, _<_}
+use native.Mathlib.Nat.{le-refl, lt-of-lt-of-le}
 use native.Mathlib.Omega.{arith}
-use lib.ListN.{getD}
 use Rattle.meaning.specs.Table.{bit}
-use Rattle.rules.specs.Uses.{Use, Uses, bodyCode, familyIn, Fitting, UseAdded}
-use Rattle.rules.proofs.CodeLaws.{kindIn, otherIn, family-in-code, kind-in-code, other-in-code}
-use Rattle.firing.specs.Firing.{Formed}
-use Rattle.loading.specs.Steps.{Proper, Room, UsesAdded, Either}
+use Rattle.rules.specs.declared.Use.{Use}
+use Rattle.rules.specs.Uses.{Uses, Listed, Fitting, Proper, Formed, HeadOf, UseAdded, bodyOfHead, headsIn, sourceIn}
+use Rattle.rules.proofs.Forming.{use-formed}
+use Rattle.heads.proofs.Gaining.{some-bit, below-or-not}
+use Rattle.loading.specs.Steps.{Room, Sources, UsesAdded}
 
--- what `Formed` asks of one code
-record Form (code : ℕ) : Type 0 where
-  kinds : (1 ≤ kindIn code) × (kindIn code ≤ 5)
-  named : 1024 ≤ familyIn code → kindIn code ≡ 2
-  names : kindIn code ≡ 2 → familyIn code < 1024 → otherIn code < 32
-
-proper-form : (u : Use) → Proper u → (code : ℕ) → code ≡ bodyCode (u .family) (u .kind) (u .other) → Form code
-proper-form u p code e =
-    let f = ap familyIn e ∙ family-in-code (u .family) (u .kind) (u .other) (p .fitting .kind) (p .fitting .other) in
-    let k = ap kindIn e ∙ kind-in-code (u .family) (u .kind) (u .other) (p .fitting .kind) (p .fitting .other) in
-    let o = ap otherIn e ∙ other-in-code (u .family) (u .kind) (u .other) (p .fitting .kind) (p .fitting .other) in
-    record { kinds = rw k (p .kind); named = rw (f, k) (p .named); names = rw (f, k, o) (p .name) }
-
-formed-after : (u : Use) → Proper u → {v : ℕ} {codes valid : List ℕ} {b h : ℕ} → Formed codes b h → {codes′ valid′ lists′ : List ℕ} {b′ h′ : ℕ} → UseAdded u v codes valid b h codes′ valid′ lists′ b′ h′ → Formed codes′ b′ h′
-formed-after u p {codes = codes} {b = b} formed {codes′} {b′ = b′} a =
-    record { kinds = λ i l. form i l .kinds; named = λ i l. form i l .named; names = λ i l. form i l .names }
-  where
-    form : (i : ℕ) → i < b′ → Form (getD codes′ i 0)
-    form i l = go (a .coded i l)
-      where
-        go : (getD codes′ i 0 ≡ bodyCode (u .family) (u .kind) (u .other)) ⊎ ((i < b) × (getD codes′ i 0 ≡ getD codes i 0)) → Form (getD codes′ i 0)
-        go (inl e) = proper-form u p _ e
-        go (inr (k, e)) = rw e record { kinds = formed .kinds i k; named = formed .named i k; names = formed .names i k }
-
-module _ (u : Use) (p : Proper u) {v : ℕ} {codes valid : List ℕ} {b h : ℕ} (formed : Formed codes b h) {codes′ valid′ lists′ : List ℕ} {b′ h′ : ℕ} (a : UseAdded u v codes valid b h codes′ valid′ lists′ b′ h′) where
-  use-formed : Formed codes′ b′ h′
-  use-formed = formed-after u p formed a
-
-  pub one-use : UsesAdded (λ w s. (w ≡ u) × (bit v s ≡ 1)) codes valid b h codes′ valid′ lists′ b′ h′
-  one-use = record { listed = a .listed; formed = use-formed; few = (omega (arith, a .one .0), omega (arith, a .one .1)); exact = a .exact }
-
-  pub two-uses : (w : Use) → Proper w → {codes″ valid″ lists″ : List ℕ} {b″ h″ : ℕ} → UseAdded w v codes′ valid′ b′ h′ codes″ valid″ lists″ b″ h″ → UsesAdded (Either u w v) codes valid b h codes″ valid″ lists″ b″ h″
-  two-uses w q {codes″} {valid″} {lists″} {b″} {h″} a₂ =
-      record {
-        listed = a₂ .listed;
-        formed = next-formed;
-        few = (omega (arith, a .one .0, a₂ .one .0), omega (arith, a .one .1, a₂ .one .1));
-        exact = λ x s f. ((λ y. to x s f (a₂ .exact x s f .0 y)), λ y. a₂ .exact x s f .1 (from x s f y));
-      }
-    where
-      next-formed : Formed codes″ b″ h″
-      next-formed = formed-after w q use-formed a₂
-
-      to : (x : Use) (s : ℕ) → Fitting x → Uses codes′ valid′ b′ h′ x s ⊎ ((x ≡ w) × (bit v s ≡ 1)) → Uses codes valid b h x s ⊎ Either u w v x s
-      to x s f (inr (e, q)) = inr (inr e, q)
-      to x s f (inl y) = first (a .exact x s f .0 y)
-        where
-          first : Uses codes valid b h x s ⊎ ((x ≡ u) × (bit v s ≡ 1)) → Uses codes valid b h x s ⊎ Either u w v x s
-          first (inl z) = inl z
-          first (inr (e, q)) = inr (inl e, q)
-
-      from : (x : Use) (s : ℕ) → Fitting x → Uses codes valid b h x s ⊎ Either u w v x s → Uses codes′ valid′ b′ h′ x s ⊎ ((x ≡ w) × (bit v s ≡ 1))
-      from x s f (inl y) = inl (a .exact x s f .1 (inl y))
-      from x s f (inr (inl e, q)) = inl (a .exact x s f .1 (inr (e, q)))
-      from x s f (inr (inr e, q)) = inr (e, q)
+-- one use in the spans v, with its source
+abbrev pub OneUse : Use → ℕ → ℕ → Sources
+OneUse u v source w s o = (w ≡ u) × (bit v s ≡ 1) × (o ≡ source)
 
 -- nothing is new
-pub no-use : {New : Use → ℕ → Type 0} {codes valid lists : List ℕ} {b h : ℕ} → Room codes valid lists b h → ((w : Use) (s : ℕ) → New w s → ⊥) → UsesAdded New codes valid b h codes valid lists b h
-no-use {New} {codes} {valid} {lists} {b} {h} r none =
-    record { listed = r .listed; formed = r .formed; few = (omega arith, omega arith); exact = λ w s f. (inl, back w s) }
+pub none-added : {n : ℕ} {New : Sources} {codes valid lists : List ℕ} → Room n codes valid lists → ((w : Use) (s o : ℕ) → New w s o → ⊥) → UsesAdded n New codes valid lists codes valid lists
+none-added {New = New} {codes} {valid} {lists} r none =
+    record {
+      listed = r .listed;
+      formed = r .formed;
+      few = (omega arith, omega arith);
+      more = (le-refl _, le-refl _);
+      bodies = λ i _. refl;
+      heads = λ i _. (refl, refl);
+      new = λ i k j. absurd (omega arith);
+      exact = λ w s f. (inl, back w s);
+    }
   where
-    back : (w : Use) (s : ℕ) → Uses codes valid b h w s ⊎ New w s → Uses codes valid b h w s
+    back : (w : Use) (s : ℕ) → Uses codes valid lists w s ⊎ ((o : ℕ) × New w s o) → Uses codes valid lists w s
     back w s (inl x) = x
-    back w s (inr x) = absurd (none w s x)
+    back w s (inr (o, x)) = absurd (none w s o x)
 
--- the same in other words
-pub uses-same : {P Q : Use → ℕ → Type 0} {codes valid codes′ valid′ lists′ : List ℕ} {b h b′ h′ : ℕ} → ((w : Use) (s : ℕ) → P w s ↔ Q w s) → UsesAdded P codes valid b h codes′ valid′ lists′ b′ h′ → UsesAdded Q codes valid b h codes′ valid′ lists′ b′ h′
-uses-same {P} {Q} {codes} {valid} {b = b} {h = h} e a =
+-- one use
+pub one-added : {u : Use} {v source : ℕ} {codes valid lists codes′ valid′ lists′ : List ℕ} → Proper u → (v ≡ 0 → ⊥) → Formed codes lists → UseAdded u v source codes valid lists codes′ valid′ lists′ → UsesAdded 1 (OneUse u v source) codes valid lists codes′ valid′ lists′
+one-added {u} {v} {source} {codes} {valid} {lists} {codes′} {valid′} {lists′} p some formed a =
+    let b = some-bit v some in
     record {
       listed = a .listed;
-      formed = a .formed;
-      few = a .few;
+      formed = use-formed p formed a;
+      few = a .one;
+      more = a .more;
+      bodies = a .bodies;
+      heads = λ i k. (a .heads i k, a .sources i k);
+      new = λ i k j. let x = a .new i k j in (u, x .0, (b .0, (refl, b .1, x .1)));
       exact = λ w s f. ((λ x. to w s (a .exact w s f .0 x)), λ x. a .exact w s f .1 (from w s x));
     }
   where
-    to : (w : Use) (s : ℕ) → Uses codes valid b h w s ⊎ P w s → Uses codes valid b h w s ⊎ Q w s
+    to : (w : Use) (s : ℕ) → Uses codes valid lists w s ⊎ ((w ≡ u) × (bit v s ≡ 1)) → Uses codes valid lists w s ⊎ ((o : ℕ) × OneUse u v source w s o)
     to w s (inl x) = inl x
-    to w s (inr x) = inr (e w s .0 x)
+    to w s (inr (e, b)) = inr (source, (e, b, refl))
 
-    from : (w : Use) (s : ℕ) → Uses codes valid b h w s ⊎ Q w s → Uses codes valid b h w s ⊎ P w s
+    from : (w : Use) (s : ℕ) → Uses codes valid lists w s ⊎ ((o : ℕ) × OneUse u v source w s o) → Uses codes valid lists w s ⊎ ((w ≡ u) × (bit v s ≡ 1))
     from w s (inl x) = inl x
-    from w s (inr x) = inr (e w s .1 x)
+    from w s (inr (o, (e, b, _))) = inr (e, b)
+
+-- ---- what was listed stays
+
+module _ {n : ℕ} {New : Sources} {codes valid lists codes′ valid′ lists′ : List ℕ} (a : UsesAdded n New codes valid lists codes′ valid′ lists′) where
+  pub head-stays : Listed codes valid lists → (i : ℕ) → i < headsIn lists → {u : Use} → HeadOf codes u i → HeadOf codes′ u i
+  head-stays l i k x =
+      let e = a .heads i k .0 in
+      record { bodyCoded = rw e (a .bodies (bodyOfHead codes i) (l .bodies i k) ∙ x .bodyCoded); headCoded = rw e (x .headCoded) }
+
+  -- the same in other words
+  pub uses-same : {m : ℕ} {New′ : Sources} → n ≤ m → ((w : Use) (s o : ℕ) → New w s o ↔ New′ w s o) → UsesAdded m New′ codes valid lists codes′ valid′ lists′
+  uses-same {New′ = New′} l e =
+      record {
+        listed = a .listed;
+        formed = a .formed;
+        few = (omega (arith, a .few .0), omega (arith, a .few .1));
+        more = a .more;
+        bodies = a .bodies;
+        heads = a .heads;
+        new = λ i k j. let x = a .new i k j in (x .0, x .1, (x .2 .0, e (x .0) (x .2 .0) (sourceIn lists′ i) .0 (x .2 .1)));
+        exact = λ w s f. ((λ x. to w s (a .exact w s f .0 x)), λ x. a .exact w s f .1 (from w s x));
+      }
+    where
+      to : (w : Use) (s : ℕ) → Uses codes valid lists w s ⊎ ((o : ℕ) × New w s o) → Uses codes valid lists w s ⊎ ((o : ℕ) × New′ w s o)
+      to w s (inl x) = inl x
+      to w s (inr (o, x)) = inr (o, e w s o .0 x)
+
+      from : (w : Use) (s : ℕ) → Uses codes valid lists w s ⊎ ((o : ℕ) × New′ w s o) → Uses codes valid lists w s ⊎ ((o : ℕ) × New w s o)
+      from w s (inl x) = inl x
+      from w s (inr (o, x)) = inr (o, e w s o .1 x)
+
+-- ---- one after the other
+
+abbrev pub Either : Sources → Sources → Sources
+Either P Q w s o = P w s o ⊎ Q w s o
+
+module _ {P : Sources} {codes valid lists codes′ valid′ lists′ : List ℕ} (a : UsesAdded 1 P codes valid lists codes′ valid′ lists′) where
+  pub both-added : {Q : Sources} {codes″ valid″ lists″ : List ℕ} → UsesAdded 1 Q codes′ valid′ lists′ codes″ valid″ lists″ → UsesAdded 2 (Either P Q) codes valid lists codes″ valid″ lists″
+  both-added {Q} {codes″} {valid″} {lists″} d =
+      record {
+        listed = d .listed;
+        formed = d .formed;
+        few = (omega (arith, a .few .0, d .few .0), omega (arith, a .few .1, d .few .1));
+        more = (omega (arith, a .more .0, d .more .0), omega (arith, a .more .1, d .more .1));
+        bodies = λ i k. d .bodies i (lt-of-lt-of-le k (a .more .0)) ∙ a .bodies i k;
+        heads = λ i k.
+            let x = a .heads i k in
+            let y = d .heads i (lt-of-lt-of-le k (a .more .1)) in
+            (y .0 ∙ x .0, y .1 ∙ x .1);
+        new = λ i k j. origin i k j (below-or-not i (headsIn lists′));
+        exact = λ w s f. ((λ x. to w s f (d .exact w s f .0 x)), λ x. d .exact w s f .1 (from w s f x));
+      }
+    where
+      origin : (i : ℕ) → headsIn lists ≤ i → i < headsIn lists″ → (i < headsIn lists′) ⊎ (headsIn lists′ ≤ i) → (u : Use) × HeadOf codes″ u i × ((s : ℕ) × Either P Q u s (sourceIn lists″ i))
+      origin i k j (inl l) =
+          let x = a .new i k l in
+          (x .0, head-stays d (a .listed) i l (x .1), (x .2 .0, inl (subst⁻¹ (P (x .0) (x .2 .0)) (d .heads i l .1) (x .2 .1))))
+      origin i k j (inr l) = let x = d .new i l j in (x .0, x .1, (x .2 .0, inr (x .2 .1)))
+
+      first : (w : Use) (s : ℕ) → Uses codes valid lists w s ⊎ ((o : ℕ) × P w s o) → Uses codes valid lists w s ⊎ ((o : ℕ) × Either P Q w s o)
+      first w s (inl x) = inl x
+      first w s (inr (o, x)) = inr (o, inl x)
+
+      to : (w : Use) (s : ℕ) → Fitting w → Uses codes′ valid′ lists′ w s ⊎ ((o : ℕ) × Q w s o) → Uses codes valid lists w s ⊎ ((o : ℕ) × Either P Q w s o)
+      to w s f (inl x) = first w s (a .exact w s f .0 x)
+      to w s f (inr (o, x)) = inr (o, inr x)
+
+      from : (w : Use) (s : ℕ) → Fitting w → Uses codes valid lists w s ⊎ ((o : ℕ) × Either P Q w s o) → Uses codes′ valid′ lists′ w s ⊎ ((o : ℕ) × Q w s o)
+      from w s f (inl x) = inl (a .exact w s f .1 (inl x))
+      from w s f (inr (o, inl x)) = inl (a .exact w s f .1 (inr (o, x)))
+      from w s f (inr (o, inr x)) = inr (o, x)

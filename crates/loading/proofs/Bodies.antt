@@ -1,112 +1,74 @@
--- What the calls for one credential come to, by its statement.
-use mathlib.Core.Path.{_≡_, refl, subst, subst⁻¹}
+-- What the calls for one credential's uses come to, by its statement.
+use mathlib.Core.Path.{_≡_, sym, ap, _∙_, subst}
 use mathlib.Core.Logic.{_⊎_, inl, inr, _↔_}
+use mathlib.Core.Bool.{true, false}
 use mathlib.Core.List.{List}
-use Prim.Native.Nat.{ℕ, _≤_}
+use Prim.Native.Nat.{ℕ, _+_}
+use native.Mathlib.Nat.{le-refl}
 use native.Mathlib.Omega.{arith}
-use Rattle.meaning.specs.Credentials.{Body, set, role, link, _∩_, _⊙_, _⊗_}
-use Rattle.file.specs.declared.Period.{Period}
-use Rattle.file.proofs.Uses.{by-kind}
+use Rattle.meaning.specs.Table.{bit}
+use Rattle.meaning.proofs.Bits.{bit-of-zero}
 use Rattle.policy.specs.declared.Statement.{Statement}
-use Rattle.policy.specs.Policy.{credentialOf, statementIn, periodIn, bodyBy, bodyOf}
-use Rattle.store.specs.Entries.{keyOf, Added}
-use Rattle.rules.specs.Uses.{Use, UsedBy, UseAdded}
-use Rattle.heads.specs.Gaining.{Kept, Gains}
-use Rattle.heads.proofs.Gaining.{gains-none, gains-one, gains-same}
-use Rattle.loading.specs.declared.Premises.{Premises}
+use Rattle.policy.specs.Policy.{credentialOf, statementIn, bodyOf}
+use Rattle.rules.specs.declared.Use.{Use}
+use Rattle.rules.specs.Uses.{UsedAs}
 use Rattle.loading.specs.Loading.{Masked}
-use Rattle.loading.specs.Steps.{States, Proper, Usable, premisesBy, premisesOf, firstUse, secondUse, Room, UsesAdded, BodyUses, BodySets, CredentialLoaded}
-use Rattle.loading.proofs.Adding.{one-use, two-uses, no-use, uses-same}
+use Rattle.loading.specs.Steps.{Stated, firstUse, secondUse, Room, UsesAdded, BodyUses, UseOf}
+use Rattle.loading.proofs.Usables.{set-unused, role-once, first-used, second-used}
+use Rattle.loading.proofs.Adding.{OneUse, none-added, both-added, uses-same}
 
--- ---- premises
+-- ---- a statement's uses in the spans v
 
--- the kinds 3 to 5 have two roles
-pub pair-premises : (X Bs Ct k : ℕ) → k ≤ 5 → (k ≡ 0 → ⊥) → (k ≡ 1 → ⊥) → (k ≡ 2 → ⊥) → premisesBy k Bs Ct Ct ≡ premisesOf (bodyBy k X Bs Ct)
-pair-premises X Bs Ct =
-    by-kind (λ k. (k ≡ 0 → ⊥) → (k ≡ 1 → ⊥) → (k ≡ 2 → ⊥) → premisesBy k Bs Ct Ct ≡ premisesOf (bodyBy k X Bs Ct))
-    (λ z _ _. absurd (z refl)) (λ _ z _. absurd (z refl)) (λ _ _ z. absurd (z refl)) (λ _ _ _. refl) (λ _ _ _. refl) (λ _ _ _. refl)
+module _ (s : Statement) (h : Stated s) (some : s .kind ≡ 0 → ⊥) (v i : ℕ) where
+  abbrev First : Use → ℕ → ℕ → Type 0
+  First = OneUse (firstUse s) v i
 
--- the uses by the premises: none of kind 0, one of kind 1, two of every other
-abbrev Planned : Premises → ℕ → Use → Type 0
-Planned x Ar u = (x .kind ≡ 0 → ⊥) × ((u ≡ firstUse x Ar) ⊎ ((x .kind ≡ 1 → ⊥) × (u ≡ secondUse x Ar)))
+  first-is : (u : Use) → UsedAs false (bodyOf s) (s .head) u ↔ (u ≡ firstUse s)
+  first-is u = first-used (s .set) (s .first) (s .second) (s .head) u (s .kind) (h .kind) some
 
-both : {A B : Type 0} {k : ℕ} → (k ≡ 0 → ⊥) → (k ≡ 1 → ⊥) → (A ⊎ B) ↔ ((k ≡ 0 → ⊥) × (A ⊎ ((k ≡ 1 → ⊥) × B)))
-both {A} {B} {k} some two = ((λ x. (some, to x)), λ y. from (y .1))
-  where
-    to : A ⊎ B → A ⊎ ((k ≡ 1 → ⊥) × B)
-    to (inl a) = inl a
-    to (inr b) = inr (two, b)
+  -- a role has one use
+  pub one-used : s .kind ≡ 1 → {codes valid lists codes′ valid′ lists′ : List ℕ} → UsesAdded 1 First codes valid lists codes′ valid′ lists′ → UsesAdded 2 (BodyUses (bodyOf s) (s .head) v i) codes valid lists codes′ valid′ lists′
+  one-used k a = uses-same a (omega arith) (λ w t o. ((λ x. (x .1, (false, first-is w .1 (x .0), x .2))), back w t o))
+    where
+      back : (w : Use) (t o : ℕ) → BodyUses (bodyOf s) (s .head) v i w t o → First w t o
+      back w t o (b, (false, x, e)) = (first-is w .0 x, b, e)
+      back w t o (b, (true, x, e)) = absurd (role-once (s .set) (s .first) (s .second) (s .head) w (s .kind) k x)
 
-    from : A ⊎ ((k ≡ 1 → ⊥) × B) → A ⊎ B
-    from (inl a) = inl a
-    from (inr b) = inr (b .1)
+  -- every other kind has two
+  module _ (two : s .kind ≡ 1 → ⊥) where
+    abbrev Second : Use → ℕ → ℕ → Type 0
+    Second = OneUse (secondUse s) v (i + 256)
 
-sole : {A B : Type 0} {k : ℕ} → k ≡ 1 → A ⊎ ((k ≡ 1 → ⊥) × B) → A
-sole e (inl a) = a
-sole e (inr b) = absurd (b .0 e)
+    second-is : (u : Use) → UsedAs true (bodyOf s) (s .head) u ↔ (u ≡ secondUse s)
+    second-is u = second-used (s .set) (s .first) (s .second) (s .head) u (s .kind) (h .kind) some two
 
-planned : (e : Body) (Ar : ℕ) (u : Use) → UsedBy e Ar u ↔ Planned (premisesOf e) Ar u
-planned (set X) Ar u = ((λ x. absurd x), λ y. absurd (y .0 refl))
-planned (role Bs) Ar u = ((λ x. ((λ z. omega arith), inl x)), λ y. sole {k = 1} refl (y .1))
-planned (link Bs t) Ar u = both {k = 2} (λ z. omega arith) (λ z. omega arith)
-planned (Bs ∩ Ct) Ar u = both {k = 3} (λ z. omega arith) (λ z. omega arith)
-planned (Bs ⊙ Ct) Ar u = both {k = 4} (λ z. omega arith) (λ z. omega arith)
-planned (Bs ⊗ Ct) Ar u = both {k = 5} (λ z. omega arith) (λ z. omega arith)
+    pub two-used : {codes valid lists codes′ valid′ lists′ codes″ valid″ lists″ : List ℕ} → UsesAdded 1 First codes valid lists codes′ valid′ lists′ → UsesAdded 1 Second codes′ valid′ lists′ codes″ valid″ lists″ → UsesAdded 2 (BodyUses (bodyOf s) (s .head) v i) codes valid lists codes″ valid″ lists″
+    two-used a d = uses-same (both-added a d) (le-refl 2) (λ w t o. (to w t o, back w t o))
+      where
+        to : (w : Use) (t o : ℕ) → First w t o ⊎ Second w t o → BodyUses (bodyOf s) (s .head) v i w t o
+        to w t o (inl (x, b, e)) = (b, (false, first-is w .1 x, e))
+        to w t o (inr (x, b, e)) = (b, (true, second-is w .1 x, e))
 
--- ---- uses
-
--- x is what the premises of the body are
-module _ (e : Body) (Ar : ℕ) {x : Premises} (q : x ≡ premisesOf e) where
-  uses-by : (u : Use) → UsedBy e Ar u ↔ Planned x Ar u
-  uses-by u = subst⁻¹ (λ (y : Premises). UsedBy e Ar u ↔ Planned y Ar u) q (planned e Ar u)
-
-  pub none-used : x .kind ≡ 0 → (v : ℕ) {codes valid lists : List ℕ} {b h : ℕ} → Room codes valid lists b h → UsesAdded (BodyUses e Ar v) codes valid b h codes valid lists b h
-  none-used k v r = no-use r (λ w s y. uses-by w .0 (y .0) .0 k)
-
-  module _ (some : x .kind ≡ 0 → ⊥) where
-    pub first-proper : Usable e Ar → Proper (firstUse x Ar)
-    first-proper p = p .proper (firstUse x Ar) (uses-by (firstUse x Ar) .1 (some, inl refl))
-
-    pub one-used : x .kind ≡ 1 → Usable e Ar → (v : ℕ) {codes valid lists : List ℕ} {b h : ℕ} → Room codes valid lists b h → {codes′ valid′ lists′ : List ℕ} {b′ h′ : ℕ} → UseAdded (firstUse x Ar) v codes valid b h codes′ valid′ lists′ b′ h′ → UsesAdded (BodyUses e Ar v) codes valid b h codes′ valid′ lists′ b′ h′
-    one-used k p v r a =
-        uses-same (λ w s. ((λ y. (uses-by w .1 (some, inl (y .0)), y .1)), λ y. (sole k (uses-by w .0 (y .0) .1), y .1)))
-        (one-use (firstUse x Ar) (first-proper p) (r .formed) a)
-
-    module _ (two : x .kind ≡ 1 → ⊥) where
-      pub second-proper : Usable e Ar → Proper (secondUse x Ar)
-      second-proper p = p .proper (secondUse x Ar) (uses-by (secondUse x Ar) .1 (some, inr (two, refl)))
-
-      pub two-used : Usable e Ar → (v : ℕ) {codes valid lists : List ℕ} {b h : ℕ} → Room codes valid lists b h → {codes′ valid′ lists′ : List ℕ} {b′ h′ : ℕ} → UseAdded (firstUse x Ar) v codes valid b h codes′ valid′ lists′ b′ h′ → {codes″ valid″ lists″ : List ℕ} {b″ h″ : ℕ} → UseAdded (secondUse x Ar) v codes′ valid′ b′ h′ codes″ valid″ lists″ b″ h″ → UsesAdded (BodyUses e Ar v) codes valid b h codes″ valid″ lists″ b″ h″
-      two-used p v r a d =
-          let same : (w : Use) → ((w ≡ firstUse x Ar) ⊎ (w ≡ secondUse x Ar)) ↔ Planned x Ar w = λ w. both some two in
-          uses-same (λ w s. ((λ y. (uses-by w .1 (same w .0 (y .0)), y .1)), λ y. (same w .1 (uses-by w .0 (y .0)), y .1)))
-          (two-uses (firstUse x Ar) (first-proper p) (r .formed) a (secondUse x Ar) (second-proper p) d)
-
--- ---- sets
-
-module _ (X Bs Ct : ℕ) where
-  none-stated : (k : ℕ) → k ≤ 5 → (k ≡ 0 → ⊥) → (Ar key : ℕ) → States (bodyBy k X Bs Ct) Ar key → ⊥
-  none-stated =
-      by-kind (λ k. (k ≡ 0 → ⊥) → (Ar key : ℕ) → States (bodyBy k X Bs Ct) Ar key → ⊥)
-      (λ z _ _ _. z refl) (λ _ _ _ x. x) (λ _ _ _ x. x) (λ _ _ _ x. x) (λ _ _ _ x. x) (λ _ _ _ x. x)
-
-  module _ (limit Ar v : ℕ) {keys spans slots links : List ℕ} {n : ℕ} (kept : Kept keys spans slots links n) where
-    pub set-gains : {k : ℕ} {keys′ spans′ slots′ links′ : List ℕ} {r : ℕ} → k ≡ 0 → Added limit (keyOf Ar X) v keys spans n keys′ spans′ slots′ links′ r → Gains limit keys spans n (BodySets (bodyBy k X Bs Ct) Ar v) keys′ spans′ slots′ links′ r
-    set-gains {keys′ = keys′} {spans′} {slots′} {links′} {r} e a =
-        subst⁻¹ (λ (k : ℕ). Gains limit keys spans n (BodySets (bodyBy k X Bs Ct) Ar v) keys′ spans′ slots′ links′ r) e (gains-one kept a)
-
-    -- no other kind states a set
-    pub other-gains : {k : ℕ} → k ≤ 5 → (k ≡ 0 → ⊥) → n ≤ limit → Gains limit keys spans n (BodySets (bodyBy k X Bs Ct) Ar v) keys spans slots links n
-    other-gains {k} l some few = gains-none kept few (λ key s x. none-stated k l some Ar key (x .0))
+        back : (w : Use) (t o : ℕ) → BodyUses (bodyOf s) (s .head) v i w t o → First w t o ⊎ Second w t o
+        back w t o (b, (false, x, e)) = inl (first-is w .0 x, b, e)
+        back w t o (b, (true, x, e)) = inr (second-is w .0 x, b, e)
 
 -- ---- the credential at position i of a policy
 
-pub credential-loaded : {es : List ℕ} {m : ℕ} (p : List ℕ) (i : ℕ) {st : Statement} {t : Period} (v : ℕ) {limit : ℕ} {keys spans codes valid : List ℕ} {b h n : ℕ} {keys′ spans′ slots′ links′ codes′ valid′ lists′ : List ℕ} {b′ h′ n′ : ℕ} → st ≡ statementIn p i → t ≡ periodIn p i → Masked es m (t .from) (t .until) v → Gains limit keys spans n (BodySets (bodyOf st) (st .head) v) keys′ spans′ slots′ links′ n′ → UsesAdded (BodyUses (bodyOf st) (st .head) v) codes valid b h codes′ valid′ lists′ b′ h′ → CredentialLoaded es m (credentialOf p i) limit keys spans codes valid b h n keys′ spans′ slots′ links′ codes′ valid′ lists′ b′ h′ n′
-credential-loaded {es} {m} p i v {limit} {keys} {spans} {codes} {valid} {b} {h} {n} {keys′} {spans′} {slots′} {links′} {codes′} {valid′} {lists′} {b′} {h′} {n′} e f k g u =
-    let during = subst (λ (t : Period). Masked es m (t .from) (t .until) v) f k in
-    record {
-      sets = gains-same (λ key s z. (z .0, during s .0 (z .1))) (λ key s z. (z .0, during s .1 (z .1)))
-          (subst (λ (st : Statement). Gains limit keys spans n (BodySets (bodyOf st) (st .head) v) keys′ spans′ slots′ links′ n′) e g);
-      uses = uses-same (λ w s. ((λ z. (z .0, during s .0 (z .1))), λ z. (z .0, during s .1 (z .1))))
-          (subst (λ (st : Statement). UsesAdded (BodyUses (bodyOf st) (st .head) v) codes valid b h codes′ valid′ lists′ b′ h′) e u);
-    }
+module _ (p : List ℕ) (i : ℕ) (es : List ℕ) (count : ℕ) {codes valid lists : List ℕ} where
+  -- a set has no uses
+  pub set-added : {s : Statement} → s ≡ statementIn p i → s .kind ≡ 0 → Room 2 codes valid lists → UsesAdded 2 (UseOf es count i (credentialOf p i)) codes valid lists codes valid lists
+  set-added q k r =
+      let t = statementIn p i in
+      let e : t .kind ≡ 0 = sym (ap (λ (x : Statement). x .kind) q) ∙ k in
+      none-added r (λ w s o x. set-unused (t .set) (t .first) (t .second) (t .head) w (t .kind) e (x .1 .0) (x .1 .1))
+
+  module _ (v : ℕ) (m : Masked es count (credentialOf p i .period) v) where
+    -- nor has a credential that is valid in no span
+    pub invalid-added : v ≡ 0 → Room 2 codes valid lists → UsesAdded 2 (UseOf es count i (credentialOf p i)) codes valid lists codes valid lists
+    invalid-added z r = none-added r (λ w s o x. let e = m s .1 (x .0) in let f = ap (λ (y : ℕ). bit y s) z ∙ bit-of-zero s in omega arith)
+
+    pub valid-added : {s : Statement} → s ≡ statementIn p i → {codes′ valid′ lists′ : List ℕ} → UsesAdded 2 (BodyUses (bodyOf s) (s .head) v i) codes valid lists codes′ valid′ lists′ → UsesAdded 2 (UseOf es count i (credentialOf p i)) codes valid lists codes′ valid′ lists′
+    valid-added q {codes′} {valid′} {lists′} a =
+        uses-same (subst (λ (s : Statement). UsesAdded 2 (BodyUses (bodyOf s) (s .head) v i) codes valid lists codes′ valid′ lists′) q a) (le-refl 2)
+        (λ w s o. ((λ x. (m s .0 (x .0), x .1)), λ x. (m s .1 (x .0), x .1)))

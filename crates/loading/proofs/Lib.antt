@@ -1,6 +1,8 @@
+pub mod Blank
 pub mod Masks
-pub mod Adding
 pub mod Usables
-pub mod Parts
-pub mod Wholes
+pub mod Adding
 pub mod Bodies
+pub mod Parts
+pub mod Sets
+pub mod Wholes

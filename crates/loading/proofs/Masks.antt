@@ -1,19 +1,22 @@
 -- The spans that a period covers: those from one place up to another, where the ends ascend.
-use mathlib.Core.Path.{_≡_, sym, ap, _∙_}
+use mathlib.Core.Path.{_≡_, refl, sym, ap, _∙_, subst}
+use mathlib.Core.Bool.{Bool, true, false}
 use mathlib.Core.Logic.{_⊎_, inl, inr}
 use mathlib.Core.List.{List, [], _∷_, List·Memᴰ as Mem, List·Memᴰ·head as head, List·Memᴰ·tail as tail}
 use Prim.Native.Nat.{ℕ, zero, suc, _-_, _*_, _/_, _%_, _^_, _≤_, _<_, zero-le, suc-le-suc}
 use native.Mathlib.Nat.{mod-eq-of-lt, pow-suc}
 use native.Mathlib.Omega.{arith}
+use lib.Dec.{T}
 use lib.ListN.{getD, take}
 use lib.Pow.{pow-pos, pow-lt, pow-mono}
-use Rattle.meaning.specs.Table.{bit}
+use Rattle.meaning.specs.Credentials.{Period, covers}
+use Rattle.meaning.specs.Table.{bit, digit}
 use Rattle.meaning.proofs.Bits.{bit-zero, bit-suc, bit-of-zero}
+use Rattle.meaning.proofs.Spans.{covers-in, covers-out}
 use Rattle.ends.specs.Ends.{Rising, FirstAt}
 use Rattle.ends.proofs.Insertion.{below-mid}
 use Rattle.heads.proofs.Gaining.{below-or-not}
-use Rattle.loading.specs.Loading.{Masked}
-use Rattle.loading.specs.Steps.{Spans}
+use Rattle.loading.specs.Loading.{Spans, During, Masked}
 
 -- ---- a number with the bits from p up to q
 
@@ -83,21 +86,62 @@ module _ {es : List ℕ} {n : ℕ} (w : Spans es n) where
       go (inr k) = k
       go (inl k) = absurd (let b = f .below s k in omega arith)
 
-  pub masked : (from until p q r : ℕ) → FirstAt es n from p → FirstAt es n until q → r ≡ 2 ^ q - 2 ^ p → Masked es n from until r
-  masked from until p q r f g e s = (λ b. out (sym (ap (λ (x : ℕ). bit x s) e) ∙ b), λ v. ap (λ (x : ℕ). bit x s) e ∙ put v)
+  pub masked : (v : Period) (p q r : ℕ) → FirstAt es n (v .from) p → FirstAt es n (v .until) q → r ≡ 2 ^ q - 2 ^ p → Masked es n v r
+  masked v p q r f g e s = (λ b. out (sym (ap (λ (x : ℕ). bit x s) e) ∙ b), λ d. ap (λ (x : ℕ). bit x s) e ∙ put d)
     where
-      out : bit (2 ^ q - 2 ^ p) s ≡ 1 → (s < n) × (from ≤ getD es s 0) × (getD es s 0 < until)
+      out : bit (2 ^ q - 2 ^ p) s ≡ 1 → During es n v s
       out b =
           let i = between-out p q s b in
           let l : s < n = omega (arith, g .within) in
-          (l, not-below from p s f (i .0) l, g .below s (i .1))
+          (l, not-below (v .from) p s f (i .0) l, g .below s (i .1))
 
-      before : (s < n) × (getD es s 0 < until) → (s < q) ⊎ (q ≤ s) → s < q
-      before v (inl k) = k
-      before v (inr k) = absurd (let a = not-below until q s g k (v .0) in omega arith)
+      before : During es n v s → (s < q) ⊎ (q ≤ s) → s < q
+      before d (inl k) = k
+      before d (inr k) = absurd (let a = not-below (v .until) q s g k (d .0) in omega (arith, d .2))
 
-      put : (s < n) × (from ≤ getD es s 0) × (getD es s 0 < until) → bit (2 ^ q - 2 ^ p) s ≡ 1
-      put v = between-in p q s (no-later from p s f (v .1)) (before (v .0, v .2) (below-or-not s q))
+      put : During es n v s → bit (2 ^ q - 2 ^ p) s ≡ 1
+      put d = between-in p q s (no-later (v .from) p s f (d .1)) (before d (below-or-not s q))
+
+-- ---- one span
+
+digit-one : (b : Bool) → digit b ≡ 1 → T b
+digit-one true e = tt
+digit-one false e = absurd (omega arith)
+
+one-digit : (b : Bool) → T b → digit b ≡ 1
+one-digit true t = refl
+one-digit false t = absurd t
+
+digit-small : (b : Bool) → digit b < 2
+digit-small true = omega arith
+digit-small false = omega arith
+
+module _ (es : List ℕ) (v : Period) where
+  pub first-out : (s : ℕ) → During es 1 v s → (s ≡ 0) × T (covers v (getD es 0 0))
+  first-out s d = let e : s ≡ 0 = omega (arith, d .0) in (e, subst (λ (x : ℕ). T (covers v (getD es x 0))) e (covers-in v (getD es s 0) (d .1) (d .2)))
+
+  pub first-in : T (covers v (getD es 0 0)) → During es 1 v 0
+  first-in t = let w = covers-out v (getD es 0 0) t in (omega arith, w .0, w .1)
+
+  pub first-masked : (r : ℕ) → r ≡ digit (covers v (getD es 0 0)) → Masked es 1 v r
+  first-masked r e s = (out s, put s)
+    where
+      b : Bool
+      b = covers v (getD es 0 0)
+
+      zero-bit : bit r 0 ≡ digit b
+      zero-bit = ap (λ (x : ℕ). bit x 0) e ∙ bit-zero (digit b) ∙ mod-eq-of-lt (digit-small b)
+
+      above : (s : ℕ) → bit r (suc s) ≡ 0
+      above s = let z : r / 2 ≡ 0 = omega (arith, e, digit-small b) in bit-suc r s ∙ ap (λ (x : ℕ). bit x s) z ∙ bit-of-zero s
+
+      out : (s : ℕ) → bit r s ≡ 1 → During es 1 v s
+      out zero h = first-in (digit-one b (sym zero-bit ∙ h))
+      out (suc s) h = absurd (omega (arith, above s))
+
+      put : (s : ℕ) → During es 1 v s → bit r s ≡ 1
+      put zero d = zero-bit ∙ one-digit b (first-out 0 d .1)
+      put (suc s) d = absurd (omega (arith, d .0))
 
 -- ---- the first ends of some that ascend
 

@@ -1,21 +1,78 @@
--- The statements of a policy, and of an accepted file, are usable: heads are roles, and their uses are within the format's numbers.
+-- The uses of a statement, by its first premise and by its second; they are within the format's numbers.
 use mathlib.Core.Path.{_≡_, refl, subst⁻¹}
-use mathlib.Core.Logic.{_⊎_, inl, inr}
-use mathlib.Core.List.{List, List·Memᴰ as Mem, List·Memᴰ·head as head, List·Memᴰ·tail as tail}
-use Prim.Native.Nat.{ℕ, _+_, _^_, _≤_, _<_}
+use mathlib.Core.Logic.{_⊎_, inl, inr, _↔_}
+use mathlib.Core.Bool.{Bool, true, false}
+use mathlib.Core.List.{List}
+use Prim.Native.Nat.{ℕ, _+_, _≤_, _<_}
 use native.Mathlib.Omega.{arith}
-use Rattle.meaning.specs.Credentials.{_·_, Period, Credential}
-use Rattle.file.specs.Format.{N, field, credentialIn, periodOf, withBody, bodyOf}
-use Rattle.file.specs.Reading.{uses}
-use Rattle.file.specs.Conditions.{Accepted}
+use lib.Dec.{eqb}
+use Rattle.meaning.specs.Lists.{if}
+use Rattle.meaning.specs.Credentials.{Body, set, role, link, _∩_, _⊙_, _⊗_}
 use Rattle.file.proofs.Uses.{by-kind}
 use Rattle.policy.specs.declared.Statement.{Statement}
-use Rattle.policy.specs.Policy.{credentialOf, Decoded, statementIn, bodyBy}
-use Rattle.rules.specs.Uses.{Use, useOf}
-use Rattle.policy.specs.Policy as P
-use Rattle.loading.specs.Steps.{Proper, Usable, Stated}
+use Rattle.policy.specs.Policy.{credentialOf, Decoded, statementIn, bodyBy, bodyOf}
+use Rattle.store.proofs.Chains.{equal-or-not}
+use Rattle.rules.specs.declared.Use.{Use}
+use Rattle.rules.specs.Uses.{useOf, UsedBy, UsedAs, Proper}
+use Rattle.loading.specs.Steps.{Stated, firstUse, secondUse}
 
--- a role as premise, with no link
+-- ---- by the first premise, or by the second
+
+pub used-as : (e : Body) (Ar : ℕ) (u : Use) → UsedBy e Ar u → (second : Bool) × UsedAs second e Ar u
+used-as (set X) Ar u x = absurd x
+used-as (role Bs) Ar u x = (false, x)
+used-as (link Bs t) Ar u (inl x) = (false, x)
+used-as (link Bs t) Ar u (inr x) = (true, x)
+used-as (Bs ∩ Ct) Ar u (inl x) = (false, x)
+used-as (Bs ∩ Ct) Ar u (inr x) = (true, x)
+used-as (Bs ⊙ Ct) Ar u (inl x) = (false, x)
+used-as (Bs ⊙ Ct) Ar u (inr x) = (true, x)
+used-as (Bs ⊗ Ct) Ar u (inl x) = (false, x)
+used-as (Bs ⊗ Ct) Ar u (inr x) = (true, x)
+
+pub as-used : (second : Bool) (e : Body) (Ar : ℕ) (u : Use) → UsedAs second e Ar u → UsedBy e Ar u
+as-used false (set X) Ar u x = x
+as-used true (set X) Ar u x = x
+as-used false (role Bs) Ar u x = x
+as-used true (role Bs) Ar u x = absurd x
+as-used false (link Bs t) Ar u x = inl x
+as-used true (link Bs t) Ar u x = inr x
+as-used false (Bs ∩ Ct) Ar u x = inl x
+as-used true (Bs ∩ Ct) Ar u x = inr x
+as-used false (Bs ⊙ Ct) Ar u x = inl x
+as-used true (Bs ⊙ Ct) Ar u x = inr x
+as-used false (Bs ⊗ Ct) Ar u x = inl x
+as-used true (Bs ⊗ Ct) Ar u x = inr x
+
+-- ---- by the kind
+
+same : {A : Type 0} → A ↔ A
+same = ((λ x. x), λ x. x)
+
+module _ (X Bs Ct Ar : ℕ) (u : Use) where
+  pub set-unused : (k : ℕ) → k ≡ 0 → (second : Bool) → UsedAs second (bodyBy k X Bs Ct) Ar u → ⊥
+  set-unused k e = subst⁻¹ (λ (x : ℕ). (second : Bool) → UsedAs second (bodyBy x X Bs Ct) Ar u → ⊥) e go
+    where
+      go : (second : Bool) → UsedAs second (bodyBy 0 X Bs Ct) Ar u → ⊥
+      go false x = x
+      go true x = x
+
+  pub role-once : (k : ℕ) → k ≡ 1 → UsedAs true (bodyBy k X Bs Ct) Ar u → ⊥
+  role-once k e = subst⁻¹ (λ (x : ℕ). UsedAs true (bodyBy x X Bs Ct) Ar u → ⊥) e (λ x. x)
+
+  pub first-used : (k : ℕ) → k ≤ 5 → (k ≡ 0 → ⊥) → UsedAs false (bodyBy k X Bs Ct) Ar u ↔ (u ≡ useOf Bs k (if (eqb k 1) 0 Ct) Ar)
+  first-used =
+      by-kind (λ k. (k ≡ 0 → ⊥) → UsedAs false (bodyBy k X Bs Ct) Ar u ↔ (u ≡ useOf Bs k (if (eqb k 1) 0 Ct) Ar))
+      (λ z. absurd (z refl)) (λ _. same) (λ _. same) (λ _. same) (λ _. same) (λ _. same)
+
+  pub second-used : (k : ℕ) → k ≤ 5 → (k ≡ 0 → ⊥) → (k ≡ 1 → ⊥) → UsedAs true (bodyBy k X Bs Ct) Ar u ↔ (u ≡ useOf (if (eqb k 2) (1024 + Ct) Ct) k Bs Ar)
+  second-used =
+      by-kind (λ k. (k ≡ 0 → ⊥) → (k ≡ 1 → ⊥) → UsedAs true (bodyBy k X Bs Ct) Ar u ↔ (u ≡ useOf (if (eqb k 2) (1024 + Ct) Ct) k Bs Ar))
+      (λ z _. absurd (z refl)) (λ _ z. absurd (z refl)) (λ _ _. same) (λ _ _. same) (λ _ _. same) (λ _ _. same)
+
+-- ---- within the format's numbers
+
+-- a role as premise
 proper-role : (family kind other Ar : ℕ) → family < 1024 → 1 ≤ kind → kind ≤ 5 → (kind ≡ 2 → other < 32) → other < 1024 → Ar < 1024 → Proper (useOf family kind other Ar)
 proper-role family kind other Ar f l k t o a =
     record {
@@ -25,6 +82,7 @@ proper-role family kind other Ar f l k t o a =
       name = λ e _. t e;
     }
 
+-- the second premise of a link
 proper-link : (t Bs Ar : ℕ) → t < 32 → Bs < 1024 → Ar < 1024 → Proper (useOf (1024 + t) 2 Bs Ar)
 proper-link t Bs Ar h b a =
     record {
@@ -34,95 +92,48 @@ proper-link t Bs Ar h b a =
       name = λ _ l. absurd (omega arith);
     }
 
-either : {a b : Use} → Proper a → Proper b → (u : Use) → (u ≡ a) ⊎ (u ≡ b) → Proper u
-either p q u (inl e) = subst⁻¹ Proper e p
-either p q u (inr e) = subst⁻¹ Proper e q
+if-below : (b : Bool) (x m : ℕ) → x < m → if b 0 x < m
+if-below true x m l = omega arith
+if-below false x m l = l
 
--- ---- a statement, by its kind
+module _ (s : Statement) (h : Stated s) (some : s .kind ≡ 0 → ⊥) where
+  pub first-proper : Proper (firstUse s)
+  first-proper =
+      proper-role (s .first) (s .kind) (if (eqb (s .kind) 1) 0 (s .second)) (s .head) (h .first some) (omega arith) (h .kind)
+      (λ e. if-below (eqb (s .kind) 1) (s .second) 32 (h .name e)) (if-below (eqb (s .kind) 1) (s .second) 1024 (h .second)) (h .head)
 
-module _ (X Bs Ct Ar : ℕ) (low : Ar < 1024) (c : Ct < 1024) where
-  pair : (kind : ℕ) → 3 ≤ kind → kind ≤ 5 → Bs < 1024 → (u : Use) → (u ≡ useOf Bs kind Ct Ar) ⊎ (u ≡ useOf Ct kind Bs Ar) → Proper u
-  pair kind l k b =
-      either (proper-role Bs kind Ct Ar b (omega arith) k (λ z. absurd (omega arith)) c low)
-      (proper-role Ct kind Bs Ar c (omega arith) k (λ z. absurd (omega arith)) b low)
+  pub second-proper : (s .kind ≡ 1 → ⊥) → Proper (secondUse s)
+  second-proper two =
+      by-kind (λ k. (k ≡ 0 → ⊥) → (k ≡ 1 → ⊥) → (k ≡ 2 → Ct < 32) → Proper (useOf (if (eqb k 2) (1024 + Ct) Ct) k Bs Ar))
+      (λ z _ _. absurd (z refl)) (λ _ z _. absurd (z refl)) (λ _ _ t. proper-link Ct Bs Ar (t refl) (h .first some) (h .head)) (λ _ _ _. pair 3 (omega arith) (omega arith))
+      (λ _ _ _. pair 4 (omega arith) (omega arith)) (λ _ _ _. pair 5 (omega arith) (omega arith)) (s .kind) (h .kind) some two (h .name)
+    where
+      Bs : ℕ
+      Bs = s .first
 
-  usable-by : (k : ℕ) → k ≤ 5 → ((k ≡ 0 → ⊥) → Bs < 1024) → (k ≡ 2 → Ct < 32) → Usable (bodyBy k X Bs Ct) Ar
-  usable-by =
-      by-kind (λ k. ((k ≡ 0 → ⊥) → Bs < 1024) → (k ≡ 2 → Ct < 32) → Usable (bodyBy k X Bs Ct) Ar)
-      (λ b t. record { head = low; proper = λ u x. absurd x })
-      (λ b t. record {
-        head = low;
-        proper = λ u x. subst⁻¹ Proper x (proper-role Bs 1 0 Ar (b (λ z. omega arith)) (omega arith) (omega arith) (λ z. omega arith) (omega arith) low);
-      })
-      (λ b t. record {
-        head = low;
-        proper = either (proper-role Bs 2 Ct Ar (b (λ z. omega arith)) (omega arith) (omega arith) t c low) (proper-link Ct Bs Ar (t refl) (b (λ z. omega arith)) low);
-      })
-      (λ b t. record { head = low; proper = pair 3 (omega arith) (omega arith) (b (λ z. omega arith)) })
-      (λ b t. record { head = low; proper = pair 4 (omega arith) (omega arith) (b (λ z. omega arith)) })
-      (λ b t. record { head = low; proper = pair 5 (omega arith) (omega arith) (b (λ z. omega arith)) })
+      Ct : ℕ
+      Ct = s .second
 
-pub stated-usable : (s : Statement) → Stated s → Usable (P.bodyOf s) (s .head)
-stated-usable s h = usable-by (s .set) (s .first) (s .second) (s .head) (h .head) (h .second) (s .kind) (h .kind) (h .first) (h .name)
+      Ar : ℕ
+      Ar = s .head
 
--- ---- of a policy
+      pair : (k : ℕ) → 3 ≤ k → k ≤ 5 → Proper (useOf Ct k Bs Ar)
+      pair k l m = proper-role Ct k Bs Ar (h .second) (omega arith) m (λ e. absurd (omega arith)) (h .first some) (h .head)
 
+-- every use of a statement
+pub stated-proper : (s : Statement) → Stated s → (u : Use) → UsedBy (bodyOf s) (s .head) u → Proper u
+stated-proper s h u x = go (used-as (bodyOf s) (s .head) u x) (equal-or-not (s .kind) 0) (equal-or-not (s .kind) 1)
+  where
+    go : (second : Bool) × UsedAs second (bodyOf s) (s .head) u → (s .kind ≡ 0) ⊎ (s .kind ≡ 0 → ⊥) → (s .kind ≡ 1) ⊎ (s .kind ≡ 1 → ⊥) → Proper u
+    go (b, y) (inl e) _ = absurd (set-unused (s .set) (s .first) (s .second) (s .head) u (s .kind) e b y)
+    go (false, y) (inr some) _ = subst⁻¹ Proper (first-used (s .set) (s .first) (s .second) (s .head) u (s .kind) (h .kind) some .0 y) (first-proper s h some)
+    go (true, y) (inr some) (inl e) = absurd (role-once (s .set) (s .first) (s .second) (s .head) u (s .kind) e y)
+    go (true, y) (inr some) (inr two) = subst⁻¹ Proper (second-used (s .set) (s .first) (s .second) (s .head) u (s .kind) (h .kind) some two .0 y) (second-proper s h some two)
+
+-- of a policy
 module _ {p : List ℕ} {n : ℕ} (d : Decoded p n) (i : ℕ) (l : i < n) where
   pub decoded-stated : Stated (statementIn p i)
-  decoded-stated =
-      let f = d .fits i l in
-      record { kind = f .kind; head = omega arith; first = f .first; second = omega arith; name = f .name }
+  decoded-stated = let f = d .fits i l in record { kind = f .kind; head = omega arith; first = f .first; second = omega arith; name = f .name }
 
-  pub decoded-usable : Usable (credentialOf p i .statement .body) (credentialOf p i .statement .head)
-  decoded-usable = stated-usable (statementIn p i) decoded-stated
-
--- ---- of an accepted file
-
-role-below : {A r : ℕ} → A < 32 → r < 32 → A · r < 1024
-role-below a r = omega arith
-
--- the statement of a kind and the bytes g, by the entities below 32 and the names below 32
-module _ (g : ℕ → ℕ) (Ar : ℕ) (v : Period) (low : Ar < 1024) where
-  stated : ℕ → Credential
-  stated k = withBody Ar v (bodyOf k (g 3) (g 4) (g 5) (g 6))
-
-  abbrev Entities : ℕ → Type 0
-  Entities k = (j : ℕ) → Mem j (uses k .entities) → g j < 32
-
-  abbrev Names : ℕ → Type 0
-  Names k = (j : ℕ) → Mem j (uses k .names) → g j < 32
-
-  usable : (k : ℕ) → k ≤ 5 → Entities k → Names k → Usable (stated k .statement .body) (stated k .statement .head)
-  unfolding stated
-  usable =
-      by-kind (λ k. Entities k → Names k → Usable (stated k .statement .body) (stated k .statement .head))
-      (λ e n. usable-by (2 ^ g 3) 0 0 Ar low (omega arith) 0 (omega arith) (λ _. omega arith) (λ _. omega arith))
-      (λ e n. usable-by 0 (g 3 · g 4) 0 Ar low (omega arith) 1 (omega arith) (λ _. role-below (e 3 (tail (head refl))) (n 4 (tail (head refl)))) (λ _. omega arith))
-      (λ e n.
-      let t : g 6 < 32 = n 6 (tail (tail (head refl))) in
-      usable-by 0 (g 3 · g 4) (g 6) Ar low (omega arith) 2 (omega arith) (λ _. role-below (e 3 (tail (head refl))) (n 4 (tail (head refl)))) (λ _. t))
-      (pair-of 3 (omega arith) (omega arith))
-      (pair-of 4 (omega arith) (omega arith))
-      (pair-of 5 (omega arith) (omega arith))
-    where
-      pair-of : (k : ℕ) → 3 ≤ k → k ≤ 5 → Entities 3 → Names 3 → Usable (bodyBy k 0 (g 3 · g 4) (g 5 · g 6)) Ar
-      pair-of k l h e n =
-          usable-by 0 (g 3 · g 4) (g 5 · g 6) Ar low (role-below (e 5 (tail (tail (head refl)))) (n 6 (tail (tail (head refl))))) k h
-          (λ _. role-below (e 3 (tail (head refl))) (n 4 (tail (head refl)))) (λ z. absurd (omega arith))
-
--- every kind uses A and r
-uses-issuer : (k : ℕ) → k ≤ 5 → Mem 1 (uses k .entities)
-uses-issuer = by-kind (λ k. Mem 1 (uses k .entities)) (head refl) (head refl) (head refl) (head refl) (head refl) (head refl)
-
-uses-name : (k : ℕ) → k ≤ 5 → Mem 2 (uses k .names)
-uses-name = by-kind (λ k. Mem 2 (uses k .names)) (head refl) (head refl) (head refl) (head refl) (head refl) (head refl)
-
-module _ (f : List ℕ) (a : Accepted f) (i : ℕ) (l : i < N f) where
-  pub accepted-usable : Usable (credentialIn f i .statement .body) (credentialIn f i .statement .head)
-  unfolding stated
-  accepted-usable =
-      let g = a .good i l in
-      let e : (j : ℕ) → Mem j (uses (field f i 0) .entities) → field f i j < 32 = λ j m. omega (arith, g .ranges .entities j m, a .head .limits .entities .1) in
-      let n : (j : ℕ) → Mem j (uses (field f i 0) .names) → field f i j < 32 = λ j m. omega (arith, g .ranges .names j m, a .head .limits .names .1) in
-      let low = role-below (e 1 (uses-issuer (field f i 0) (g .kind))) (n 2 (uses-name (field f i 0) (g .kind))) in
-      usable (field f i) (field f i 1 · field f i 2) (periodOf f i) low (field f i 0) (g .kind) e n
+  pub decoded-proper : (u : Use) → UsedBy (credentialOf p i .statement .body) (credentialOf p i .statement .head) u → Proper u
+  decoded-proper = stated-proper (statementIn p i) decoded-stated

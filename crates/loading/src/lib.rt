@@ -1,25 +1,224 @@
-// Loading the credentials of a policy: sets into the store, other bodies into the lists of uses, each with the spans in which it is valid.
+// Loading the credentials of a policy, each in the spans that its period covers: sets into the store, other bodies into the lists of uses.
+// The spans begin at the first `count` ends; one end is one span, in which a credential is valid that is valid at that minute.
 ghost use mathlib.Core.Path.{_≡_};
 ghost use Prim.Native.Nat.{_-_, _^_, _<_, _≤_};
-ghost use Rattle.policy.specs.Policy.{credentialOf, credentialsOf, statementIn, bodyOf};
+ghost use Rattle.meaning.specs.Table.{digit};
+ghost use Rattle.policy.specs.Policy.{credentialOf, statementIn, Decoded, bodyOf};
 ghost use Rattle.heads.specs.Gaining.{Kept, Gains};
-ghost use Rattle.loading.specs.Loading.{Masked, Loadable, Blank, LoadedFrom};
-ghost use Rattle.loading.specs.Steps.{Spans, Stated, premisesOf, Room, UsesAdded, BodyUses, BodySets, Ready, CredentialLoaded};
+ghost use Rattle.loading.specs.Loading.{Masked, Spans, NoUses, UsesLoaded, StatedIn, StatedBy, FactBy};
+ghost use Rattle.loading.specs.Steps.{Stated, firstUse, secondUse, Room, UsesAdded, BodyUses, UseOf, FactAt};
 use policy::Statement;
-use rules::Counts;
+use rules::Use;
 
-// The kind of a statement, the role of its first premise, what the other premise is, and the family of the second; kind 0 has none, kind 1 has one.
-pub struct Premises {
-    pub kind: u32,
-    pub first: u32,
-    pub other: u32,
-    pub second: u32,
+// The uses of all credentials that are valid in some span, each head with its source.
+pub fn load_uses(
+    codes: &mut [u32; 1024],
+    valid: &mut [u64; 512],
+    lists: &mut [u16; 3106],
+    policy: &[u64; 512],
+    n: usize,
+    ends: &[u32; 64],
+    count: usize,
+)
+    requires { ⌜ Decoded (now policy) n ⌝ ∗ ⌜ Spans (now ends) count ⌝ ∗ ⌜ NoUses (now codes) (now valid) (now lists) ⌝ }
+    ensures { λ _. ⌜ UsesLoaded (now (policy .entry)) n (now (ends .entry)) count (now (codes .exit)) (now (valid .exit)) (now (lists .exit)) ⌝ }
+{
+    let mut i = 0;
+    while i < n {
+        load_use(codes, valid, lists, policy, ends, count, i);
+        i += 1;
+    }
 }
 
-// How many entries, bodies and heads there are.
-pub struct Amounts {
-    pub entries: usize,
-    pub uses: Counts,
+// The sets of all credentials, into a store without entries. Above the limit: there are too many memberships.
+pub fn load_sets(
+    keys: &mut [u64; 1024],
+    spans: &mut [u64; 1024],
+    slots: &mut [u16; 3072],
+    links: &mut [u16; 2048],
+    notes: &mut [u16; 4096],
+    policy: &[u64; 512],
+    n: usize,
+    ends: &[u32; 64],
+    count: usize,
+    limit: usize,
+) -> usize
+    requires { ⌜ Decoded (now policy) n ⌝ ∗ ⌜ Spans (now ends) count ⌝ ∗ ⌜ Kept (now keys) (now spans) (now slots) (now links) (now notes) 0 ⌝ ∗ ⌜ limit ≤ 1024 ⌝ }
+    ensures { λ r. ⌜ Gains limit (now (keys .entry)) (now (spans .entry)) (now (notes .entry)) 0 (StatedBy (now (policy .entry)) n (now (ends .entry)) count) (FactBy (now (policy .entry)) n (now (ends .entry)) count) (now (keys .exit)) (now (spans .exit)) (now (slots .exit)) (now (links .exit)) (now (notes .exit)) r ⌝ }
+{
+    let mut r = 0;
+    let mut i = 0;
+    while i < n {
+        r = load_set(
+            keys,
+            spans,
+            slots,
+            links,
+            notes,
+            policy,
+            ends,
+            count,
+            limit,
+            r,
+            i,
+        );
+        if limit < r {
+            return r;
+        }
+        i += 1;
+    }
+    r
+}
+
+// The uses of the credential at position i.
+fn load_use(
+    codes: &mut [u32; 1024],
+    valid: &mut [u64; 512],
+    lists: &mut [u16; 3106],
+    policy: &[u64; 512],
+    ends: &[u32; 64],
+    count: usize,
+    i: usize,
+)
+    requires { ⌜ Room 2 (now codes) (now valid) (now lists) ⌝ ∗ ⌜ Spans (now ends) count ⌝ ∗ ⌜ (i < 256) × Stated (statementIn (now policy) i) ⌝ }
+    ensures { λ _. ⌜ UsesAdded 2 (UseOf (now (ends .entry)) count i (credentialOf (now (policy .entry)) i)) (now (codes .entry)) (now (valid .entry)) (now (lists .entry)) (now (codes .exit)) (now (valid .exit)) (now (lists .exit)) ⌝ }
+{
+    let s = policy::statement_at(policy, i);
+    if s.kind == 0 {
+        return;
+    }
+    let v = mask_at(policy, ends, count, i);
+    if v == 0 {
+        return;
+    }
+    add_uses(codes, valid, lists, s, v, i as u16);
+}
+
+// The uses of a statement by its first premise and by its second, in spans v.
+fn add_uses(
+    codes: &mut [u32; 1024],
+    valid: &mut [u64; 512],
+    lists: &mut [u16; 3106],
+    s: Statement,
+    v: u64,
+    i: u16,
+)
+    requires { ⌜ Room 2 (now codes) (now valid) (now lists) ⌝ ∗ ⌜ Stated s ⌝ ∗ ⌜ (i < 256) × (s .kind ≡ 0 → ⊥) × (v ≡ 0 → ⊥) ⌝ }
+    ensures { λ _. ⌜ UsesAdded 2 (BodyUses (bodyOf s) (s .head) v i) (now (codes .entry)) (now (valid .entry)) (now (lists .entry)) (now (codes .exit)) (now (valid .exit)) (now (lists .exit)) ⌝ }
+{
+    rules::add_use(codes, valid, lists, first_of(s), v, i);
+    if s.kind == 1 {
+        return;
+    }
+    rules::add_use(codes, valid, lists, second_of(s), v, i + 256);
+}
+
+// The use by the first premise.
+fn first_of(s: Statement) -> Use
+    requires { ⌜ Stated s ⌝ ∗ ⌜ (s .kind ≡ 0 → ⊥) ⌝ }
+    ensures { λ r. ⌜ r ≡ firstUse s ⌝ }
+{
+    if s.kind == 1 {
+        return Use {
+            family: s.first,
+            kind: 1,
+            other: 0,
+            head: s.head,
+        };
+    }
+    Use {
+        family: s.first,
+        kind: s.kind,
+        other: s.second,
+        head: s.head,
+    }
+}
+
+// The use by the second premise.
+fn second_of(s: Statement) -> Use
+    requires { ⌜ Stated s ⌝ ∗ ⌜ (s .kind ≡ 0 → ⊥) × (s .kind ≡ 1 → ⊥) ⌝ }
+    ensures { λ r. ⌜ r ≡ secondUse s ⌝ }
+{
+    if s.kind == 2 {
+        return Use {
+            family: 1024 + s.second,
+            kind: 2,
+            other: s.first,
+            head: s.head,
+        };
+    }
+    Use {
+        family: s.second,
+        kind: s.kind,
+        other: s.first,
+        head: s.head,
+    }
+}
+
+// The set of the credential at position i; kinds other than 0 state none.
+fn load_set(
+    keys: &mut [u64; 1024],
+    spans: &mut [u64; 1024],
+    slots: &mut [u16; 3072],
+    links: &mut [u16; 2048],
+    notes: &mut [u16; 4096],
+    policy: &[u64; 512],
+    ends: &[u32; 64],
+    count: usize,
+    limit: usize,
+    n: usize,
+    i: usize,
+) -> usize
+    requires { ⌜ Kept (now keys) (now spans) (now slots) (now links) (now notes) n ⌝ ∗ ⌜ (n ≤ limit) × (limit ≤ 1024) ⌝ ∗ ⌜ Spans (now ends) count ⌝ ∗ ⌜ (i < 256) × Stated (statementIn (now policy) i) ⌝ }
+    ensures { λ r. ⌜ Gains limit (now (keys .entry)) (now (spans .entry)) (now (notes .entry)) n (StatedIn (now (ends .entry)) count (credentialOf (now (policy .entry)) i)) (FactAt (now (ends .entry)) count (credentialOf (now (policy .entry)) i) i) (now (keys .exit)) (now (spans .exit)) (now (slots .exit)) (now (links .exit)) (now (notes .exit)) r ⌝ }
+{
+    let s = policy::statement_at(policy, i);
+    if s.kind != 0 {
+        return n;
+    }
+    let v = mask_at(policy, ends, count, i);
+    let key = store::key_of(s.head as usize, s.set as u64);
+    let r = store::add(keys, spans, slots, links, n, limit, key, v);
+    if limit < r {
+        return r;
+    }
+    if r == n {
+        return r;
+    }
+    store::note(notes, n, i as u16, 0, 0);
+    r
+}
+
+// The spans that the period at position i covers.
+fn mask_at(policy: &[u64; 512], ends: &[u32; 64], count: usize, i: usize) -> u64
+    requires { ⌜ Spans (now ends) count ⌝ ∗ ⌜ i < 256 ⌝ }
+    ensures { λ r. ⌜ Masked (now (ends .entry)) count (credentialOf (now (policy .entry)) i .period) r ⌝ }
+{
+    if count == 1 {
+        return first_span(policy::valid_at(policy, i, ends[0]));
+    }
+    let t = policy::period_at(policy, i);
+    span_mask(ends, count, t.from, t.until)
+}
+
+// Span 0, or none.
+fn first_span(valid: bool) -> u64
+    ensures { λ r. ⌜ r ≡ digit valid ⌝ }
+{
+    if valid {
+        return 1;
+    }
+    0
+}
+
+// The spans of the first n that a period covers: those that begin at its first end or later, and before its last.
+fn span_mask(ends: &[u32; 64], n: usize, from: u32, until: u32) -> u64
+    requires { ⌜ Spans (now ends) n ⌝ }
+    ensures { λ r. ⌜ Masked (now (ends .entry)) n (record { from = from; until = until }) r ⌝ }
+{
+    let p = ends::first_at(ends, n, from);
+    let q = ends::first_at(ends, n, until);
+    spans_between(p, q)
 }
 
 // The spans from p up to q, without q.
@@ -31,180 +230,4 @@ fn spans_between(p: usize, q: usize) -> u64
         return 0;
     }
     (1u64 << q) - (1u64 << p)
-}
-
-// The spans of the first n that a period covers: those that begin at its first end or later, and before its last.
-fn span_mask(ends: &[u32], n: usize, from: u32, until: u32) -> u64
-    requires { ⌜ Spans (now ends) n ⌝ }
-    ensures { λ r. ⌜ Masked (now (ends .entry)) n from until r ⌝ }
-{
-    let p = ends::first_at(ends, n, from);
-    let q = ends::first_at(ends, n, until);
-    spans_between(p, q)
-}
-
-// The premises of a statement.
-pub fn premises_of(s: Statement) -> Premises
-    requires { ⌜ Stated s ⌝ }
-    ensures { λ r. ⌜ r ≡ premisesOf (bodyOf s) ⌝ }
-{
-    if s.kind == 0 {
-        return Premises {
-            kind: 0,
-            first: 0,
-            other: 0,
-            second: 0,
-        };
-    }
-    if s.kind == 1 {
-        return Premises {
-            kind: 1,
-            first: s.first,
-            other: 0,
-            second: 0,
-        };
-    }
-    if s.kind == 2 {
-        return Premises {
-            kind: 2,
-            first: s.first,
-            other: s.second,
-            second: 1024 + s.second,
-        };
-    }
-    Premises {
-        kind: s.kind,
-        first: s.first,
-        other: s.second,
-        second: s.second,
-    }
-}
-
-// The uses of a statement, by its first premise and by its second.
-fn load_uses(
-    codes: &mut [u32],
-    valid: &mut [u64],
-    lists: &mut [u16],
-    c: Counts,
-    s: Statement,
-    v: u64,
-) -> Counts
-    requires { ⌜ Room (now codes) (now valid) (now lists) (c .bodies) (c .heads) ⌝ ∗ ⌜ Stated s ⌝ }
-    ensures { λ r. ⌜ UsesAdded (BodyUses (bodyOf s) (s .head) v) (now (codes .entry)) (now (valid .entry)) (c .bodies) (c .heads) (now (codes .exit)) (now (valid .exit)) (now (lists .exit)) (r .bodies) (r .heads) ⌝ }
-{
-    let x = premises_of(s);
-    if x.kind == 0 {
-        return c;
-    }
-    let d = rules::add_use(codes, valid, lists, c, x.first, x.kind, x.other, s.head, v);
-    if x.kind == 1 {
-        return d;
-    }
-    rules::add_use(codes, valid, lists, d, x.second, x.kind, x.first, s.head, v)
-}
-
-// The set of a statement; kinds other than 0 state none.
-fn load_set(
-    keys: &mut [u64],
-    spans: &mut [u64],
-    slots: &mut [u16],
-    links: &mut [u16],
-    n: usize,
-    limit: usize,
-    s: Statement,
-    v: u64,
-) -> usize
-    requires { ⌜ Kept (now keys) (now spans) (now slots) (now links) n ⌝ ∗ ⌜ (n ≤ limit) × (limit ≤ 1024) ⌝ ∗ ⌜ Stated s ⌝ }
-    ensures { λ r. ⌜ Gains limit (now (keys .entry)) (now (spans .entry)) n (BodySets (bodyOf s) (s .head) v) (now (keys .exit)) (now (spans .exit)) (now (slots .exit)) (now (links .exit)) r ⌝ }
-{
-    if s.kind != 0 {
-        return n;
-    }
-    store::add(
-        keys,
-        spans,
-        slots,
-        links,
-        n,
-        limit,
-        (s.head as u64) * 4294967296 + (s.set as u64),
-        v,
-    )
-}
-
-// The credential at position i, by the first `count` ends.
-fn load_at(
-    keys: &mut [u64],
-    spans: &mut [u64],
-    slots: &mut [u16],
-    links: &mut [u16],
-    codes: &mut [u32],
-    valid: &mut [u64],
-    lists: &mut [u16],
-    policy: &[u64; 512],
-    ends: &[u32],
-    count: usize,
-    limit: usize,
-    a: Amounts,
-    i: usize,
-) -> Amounts
-    requires { ⌜ Ready limit (now keys) (now spans) (now slots) (now links) (now codes) (now valid) (now lists) (a .uses .bodies) (a .uses .heads) (a .entries) ⌝ ∗ ⌜ Spans (now ends) count ⌝ ∗ ⌜ (i < 256) × Stated (statementIn (now policy) i) ⌝ }
-    ensures { λ r. ⌜ CredentialLoaded (now (ends .entry)) count (credentialOf (now (policy .entry)) i) limit (now (keys .entry)) (now (spans .entry)) (now (codes .entry)) (now (valid .entry)) (a .uses .bodies) (a .uses .heads) (a .entries) (now (keys .exit)) (now (spans .exit)) (now (slots .exit)) (now (links .exit)) (now (codes .exit)) (now (valid .exit)) (now (lists .exit)) (r .uses .bodies) (r .uses .heads) (r .entries) ⌝ }
-{
-    let s = policy::statement_at(policy, i);
-    let t = policy::period_at(policy, i);
-    let v = span_mask(ends, count, t.from, t.until);
-    let uses = load_uses(codes, valid, lists, a.uses, s, v);
-    let entries = load_set(keys, spans, slots, links, a.entries, limit, s, v);
-    Amounts { entries, uses }
-}
-
-// All credentials of a policy, whose ends are given. Above the limit: there are too many memberships.
-pub fn load(
-    policy: &[u64; 512],
-    credentials: usize,
-    ends: &[u32],
-    count: usize,
-    keys: &mut [u64],
-    spans: &mut [u64],
-    slots: &mut [u16],
-    links: &mut [u16],
-    codes: &mut [u32],
-    valid: &mut [u64],
-    lists: &mut [u16],
-    limit: usize,
-) -> Amounts
-    requires { ⌜ Loadable (now policy) credentials (now ends) count limit ⌝ ∗ ⌜ Blank (now keys) (now spans) (now slots) (now links) (now codes) (now valid) (now lists) ⌝ }
-    ensures { λ r. ⌜ LoadedFrom (credentialsOf (now (policy .entry)) credentials) limit (now (keys .exit)) (now (spans .exit)) (now (slots .exit)) (now (links .exit)) (now (codes .exit)) (now (valid .exit)) (now (lists .exit)) (r .uses .bodies) (r .uses .heads) (r .entries) ⌝ }
-{
-    let mut a = Amounts {
-        entries: 0,
-        uses: Counts {
-            bodies: 0,
-            heads: 0,
-        },
-    };
-    let mut i = 0;
-    while i < credentials {
-        a = load_at(
-            keys,
-            spans,
-            slots,
-            links,
-            codes,
-            valid,
-            lists,
-            policy,
-            ends,
-            count,
-            limit,
-            a,
-            i,
-        );
-        if limit < a.entries {
-            return a;
-        }
-        i += 1;
-    }
-    a
 }

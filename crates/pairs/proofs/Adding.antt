@@ -1,71 +1,54 @@
 -- All sets that wait are added to the heads of a body, one after the other.
-use mathlib.Core.Path.{_≡_, sym, subst, subst⁻¹}
+use mathlib.Core.Path.{_≡_, sym, ap, _∙_, subst}
 use mathlib.Core.Logic.{_⊎_, inl, inr}
 use mathlib.Core.List.{List}
-use Prim.Native.Nat.{ℕ, _+_, _%_, _≤_, _<_}
-use native.Mathlib.Nat.{mod-eq-of-lt}
+use Prim.Native.Nat.{ℕ, _+_, _≤_, _<_}
 use native.Mathlib.Omega.{arith}
 use lib.ListN.{getD}
 use Rattle.meaning.specs.Table.{bit}
-use Rattle.store.specs.Entries.{Has}
+use Rattle.store.specs.Entries.{roleIn, setIn}
 use Rattle.store.proofs.Chains.{equal-or-not}
-use Rattle.heads.specs.Gaining.{Kept, Gains}
-use Rattle.heads.specs.Heads.{One, Headed}
-use Rattle.heads.proofs.Gaining.{below-or-not, gains-same, gains-over, gains-then}
-use Rattle.heads.proofs.Heads.{headed-more, headed-split, headed-join, headed-none}
-use Rattle.pairs.specs.Waiting.{Waiting, Full}
+use Rattle.heads.specs.Gaining.{Origin, Kept, Gains}
+use Rattle.heads.specs.Heads.{One, Headed, FromHeads, TheOne}
+use Rattle.heads.proofs.Gaining.{gains-by, gains-same, gains-over, gains-then}
+use Rattle.heads.proofs.Heads.{headed-more, headed-split, headed-join, headed-none, from-heads-more}
+use Rattle.waiting.specs.Waiting.{Waits, Partnered}
 
-module _ (sets masks : List ℕ) where
-  pub has-none : (X s : ℕ) → Has sets masks 0 X s → ⊥
-  has-none X s (i, l, e, b) = omega arith
+module _ (places : List ℕ) where
+  waits-none : (X s : ℕ) → Waits places 0 X s → ⊥
+  waits-none X s w = omega (arith, w .low)
 
-  has-next : (i X s : ℕ) → Has sets masks (i + 1) X s → Has sets masks i X s ⊎ One (getD sets i 0) (getD masks i 0) X s
-  has-next i X s (j, l, e, b) = go (equal-or-not j i)
+  -- place i is the last
+  waits-next : (i X s : ℕ) → Waits places (i + 1) X s → Waits places i X s ⊎ One (setIn (getD places i 0)) (getD places (64 + i) 0) X s
+  waits-next i X s w = go (equal-or-not (w .place) i)
     where
-      go : (j ≡ i) ⊎ (j ≡ i → ⊥) → Has sets masks i X s ⊎ One (getD sets i 0) (getD masks i 0) X s
-      go (inl q) = inr (sym (subst (λ (x : ℕ). getD sets x 0 ≡ X) q e), subst (λ (x : ℕ). bit (getD masks x 0) s ≡ 1) q b)
-      go (inr ne) = inl (j, omega arith, e, b)
+      go : (w .place ≡ i) ⊎ (w .place ≡ i → ⊥) → Waits places i X s ⊎ One (setIn (getD places i 0)) (getD places (64 + i) 0) X s
+      go (inl q) = inr (w .set ∙ ap (λ (j : ℕ). setIn (getD places j 0)) q, subst (λ (j : ℕ). bit (getD places (64 + j) 0) s ≡ 1) q (w .spans))
+      go (inr ne) = inl record { place = w .place; low = let l = w .low in omega arith; set = w .set; spans = w .spans }
 
-  next-has : (i X s : ℕ) → Has sets masks i X s ⊎ One (getD sets i 0) (getD masks i 0) X s → Has sets masks (i + 1) X s
-  next-has i X s (inl (j, l, e, b)) = (j, omega arith, e, b)
-  next-has i X s (inr (e, b)) = (i, omega arith, sym e, b)
+  next-waits : (i X s : ℕ) → Waits places i X s ⊎ One (setIn (getD places i 0)) (getD places (64 + i) 0) X s → Waits places (i + 1) X s
+  next-waits i X s (inl w) = record { place = w .place; low = let l = w .low in omega arith; set = w .set; spans = w .spans }
+  next-waits i X s (inr (e, b)) = record { place = i; low = omega arith; set = e; spans = b }
 
-  has-more : (i count : ℕ) → i ≤ count → (X s : ℕ) → Has sets masks i X s → Has sets masks count X s
-  has-more i count l X s (j, k, e, b) = (j, omega arith, e, b)
+  waits-more : (i count : ℕ) → i ≤ count → (X s : ℕ) → Waits places i X s → Waits places count X s
+  waits-more i count l X s w = record { place = w .place; low = let k = w .low in omega arith; set = w .set; spans = w .spans }
 
-  module _ {limit : ℕ} {keys spans : List ℕ} {n : ℕ} {codes valid : List ℕ} {h body : ℕ} where
-    pub added-start : {slots links : List ℕ} → Kept keys spans slots links n → n ≤ limit → Gains limit keys spans n (Headed codes valid h body (Has sets masks 0)) keys spans slots links n
-    added-start kept few = headed-none kept few has-none
+  module _ {limit : ℕ} {keys spans notes : List ℕ} {n : ℕ} {codes valid lists : List ℕ} {body : ℕ} where
+    pub added-start : {slots links : List ℕ} {By : Origin} → Kept keys spans slots links notes n → n ≤ limit → Gains limit keys spans notes n (Headed codes valid lists body (Waits places 0)) By keys spans slots links notes n
+    added-start kept few = headed-none kept few waits-none
 
-    pub added-end : {keys′ spans′ slots′ links′ : List ℕ} {r : ℕ} (i count : ℕ) → i ≤ count → count ≤ i → Gains limit keys spans n (Headed codes valid h body (Has sets masks i)) keys′ spans′ slots′ links′ r → Gains limit keys spans n (Headed codes valid h body (Has sets masks count)) keys′ spans′ slots′ links′ r
-    added-end i count a b = gains-same (headed-more (has-more i count a)) (headed-more (has-more count i b))
+    pub added-end : {keys′ spans′ slots′ links′ notes′ : List ℕ} {r : ℕ} {By : Origin} (i count : ℕ) → i ≤ count → count ≤ i → Gains limit keys spans notes n (Headed codes valid lists body (Waits places i)) By keys′ spans′ slots′ links′ notes′ r → Gains limit keys spans notes n (Headed codes valid lists body (Waits places count)) By keys′ spans′ slots′ links′ notes′ r
+    added-end i count a b = gains-same (headed-more (waits-more i count a)) (headed-more (waits-more count i b))
 
-    module _ {keys′ spans′ slots′ links′ keys″ spans″ slots″ links″ : List ℕ} {r t : ℕ} (i : ℕ) (g : Gains limit keys spans n (Headed codes valid h body (Has sets masks i)) keys′ spans′ slots′ links′ r) (few : r ≤ limit) (a : Gains limit keys′ spans′ r (Headed codes valid h body (One (getD sets i 0) (getD masks i 0))) keys″ spans″ slots″ links″ t) where
-      pub added-next : Gains limit keys spans n (Headed codes valid h body (Has sets masks (i + 1))) keys″ spans″ slots″ links″ t
-      added-next = gains-same (headed-join (next-has i)) (headed-split (has-next i)) (gains-then g few a)
+    module _ {own count : ℕ} {keys′ spans′ slots′ links′ notes′ keys″ spans″ slots″ links″ notes″ : List ℕ} {r t : ℕ} {set other : ℕ} (i : ℕ) (low : i < count) (e : set ≡ setIn (getD places i 0)) (f : other ≡ roleIn (getD places i 0)) (g : Gains limit keys spans notes n (Headed codes valid lists body (Waits places i)) (FromHeads codes lists body own (Partnered places count)) keys′ spans′ slots′ links′ notes′ r) (few : r ≤ limit) (a : Gains limit keys′ spans′ notes′ r (Headed codes valid lists body (One set (getD places (64 + i) 0))) (FromHeads codes lists body own (TheOne set other)) keys″ spans″ slots″ links″ notes″ t) where
+      -- the set at place i, with its partner
+      this : Gains limit keys′ spans′ notes′ r (Headed codes valid lists body (One (setIn (getD places i 0)) (getD places (64 + i) 0))) (FromHeads codes lists body own (Partnered places count)) keys″ spans″ slots″ links″ notes″ t
+      this =
+          gains-same (headed-more (λ X s w. (w .0 ∙ e, w .1))) (headed-more (λ X s w. (w .0 ∙ sym e, w .1)))
+          (gains-by (from-heads-more (λ X w q. record { place = i; low = low; set = q .0 ∙ e; word = q .1 ∙ f })) a)
 
-      pub added-over : (count : ℕ) → i < count → limit < t → Gains limit keys spans n (Headed codes valid h body (Has sets masks count)) keys″ spans″ slots″ links″ t
-      added-over count l m = gains-over (headed-more (has-more (i + 1) count (omega arith))) m added-next
+      pub added-next : Gains limit keys spans notes n (Headed codes valid lists body (Waits places (i + 1))) (FromHeads codes lists body own (Partnered places count)) keys″ spans″ slots″ links″ notes″ t
+      added-next = gains-same (headed-join (next-waits i)) (headed-split (waits-next i)) (gains-then g few this)
 
-  -- ---- where no place is left
-
-  module _ (count : ℕ) where
-    pub full-has : (X s : ℕ) → Full sets masks count X s → Has sets masks count X s
-    full-has X s (l, w) = w
-
-    pub full-none : count < 256 → (X s : ℕ) → Full sets masks count X s → ⊥
-    full-none l X s (m, w) = omega arith
-
-    pub has-full : (X s : ℕ) → Has sets masks count X s → Full sets masks count X s ⊎ Has sets masks (count % 256) X s
-    has-full X s w = go (below-or-not count 256)
-      where
-        go : (count < 256) ⊎ (256 ≤ count) → Full sets masks count X s ⊎ Has sets masks (count % 256) X s
-        go (inl l) = inr (subst⁻¹ (λ (x : ℕ). Has sets masks x X s) (mod-eq-of-lt l) w)
-        go (inr l) = inl (l, w)
-
-    pub has-rest : (X s : ℕ) → Has sets masks (count % 256) X s → Has sets masks count X s
-    has-rest = has-more (count % 256) count (omega arith)
-
--- the places that are taken after that
-pub waiting-rest : {sets masks : List ℕ} {count : ℕ} → Waiting sets masks count → Waiting sets masks (count % 256)
-waiting-rest {count = count} w = record { room = w .room; few = omega arith; low = λ i l. w .low i (omega arith) }
+      pub added-over : limit < t → Gains limit keys spans notes n (Headed codes valid lists body (Waits places count)) (FromHeads codes lists body own (Partnered places count)) keys″ spans″ slots″ links″ notes″ t
+      added-over m = gains-over (headed-more (waits-more (i + 1) count (omega arith))) m added-next

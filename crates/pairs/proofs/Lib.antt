@@ -1,6 +1,6 @@
-pub mod Owing
-pub mod Roles
-pub mod Giving
-pub mod Uniting
+pub mod Gaining
+pub mod Lists
+pub mod Walks
+pub mod OneHead
 pub mod Adding
-pub mod Walking
+pub mod Gathering

@@ -1,41 +1,40 @@
 -- What the heads of a body give from a set and each entry of a role.
 use mathlib.Core.Path.{_≡_}
 use mathlib.Core.List.{List}
-use Prim.Native.Nat.{ℕ}
-use lib.Bits.{bitAnd, bitOr}
-use lib.Dec.{eqb}
+use Prim.Native.Nat.{ℕ, _-_, _<_}
+use lib.Bits.{bitAnd}
 use lib.ListN.{getD}
-use Rattle.meaning.specs.Lists.{if}
 use Rattle.meaning.specs.Table.{bit}
-use Rattle.store.specs.Entries.{roleIn, setIn}
-use Rattle.heads.specs.Gaining.{Spanned}
+use Rattle.store.specs.Entries.{keyOf, setIn, Has}
+use Rattle.rules.specs.Uses.{bodyOfHead, headsIn}
+use Rattle.heads.specs.Gaining.{Spanned, Gains}
 use Rattle.heads.specs.Walks.{From}
-use Rattle.heads.specs.Heads.{Headed}
-
-abbrev pub roleOf : List ℕ → ℕ → ℕ
-roleOf keys i = roleIn (getD keys i 0)
-
--- the set that kinds 2, 4 and 5 give from the sets x and y
-pub record Paired (kind x y X : ℕ) : Type 0 where
-  pub second : kind ≡ 2 → X ≡ y
-  pub joined : (kind ≡ 2 → ⊥) → X ≡ bitOr x y
-  pub apart : kind ≡ 5 → bitAnd x y ≡ 0
-
--- in the spans m
-abbrev pub WithPair : ℕ → ℕ → ℕ → ℕ → Spanned
-WithPair kind x y m X s = Paired kind x y X × (bit m s ≡ 1)
-
--- the same as one set with its spans, none for ⊗ of sets that share an entity
-abbrev pub pairSet : ℕ → ℕ → ℕ → ℕ
-pairSet kind x y = if (eqb kind 2) y (bitOr x y)
-
-abbrev pub pairSpans : ℕ → ℕ → ℕ → ℕ → ℕ
-pairSpans kind x y m = if (eqb kind 5) (if (eqb (bitAnd x y) 0) m 0) m
+use Rattle.heads.specs.Heads.{Headed, FromHeads}
+use Rattle.waiting.specs.declared.Pair.{Pair}
+use Rattle.waiting.specs.Pairs.{roleOf, WithPair, Pairing}
+use Rattle.pairs.specs.declared.Plan.{Plan}
 
 -- what the heads of a body give from entry j
-abbrev pub WithEntry : List ℕ → List ℕ → ℕ → ℕ → List ℕ → List ℕ → ℕ → ℕ → ℕ → ℕ → Spanned
-WithEntry codes valid h body keys done kind x d j = Headed codes valid h body (WithPair kind x (setIn (getD keys j 0)) (bitAnd d (getD done j 0)))
+abbrev pub WithEntry : List ℕ → List ℕ → List ℕ → ℕ → List ℕ → List ℕ → ℕ → ℕ → ℕ → ℕ → Spanned
+WithEntry codes valid lists body keys done kind x d j = Headed codes valid lists body (WithPair kind x (setIn (getD keys j 0)) (bitAnd d (getD done j 0)))
 
--- from each entry of a role
-abbrev pub WithEach : List ℕ → List ℕ → ℕ → ℕ → List ℕ → List ℕ → ℕ → ℕ → ℕ → ℕ → ℕ → Spanned
-WithEach codes valid h body keys done n kind role x d = From (roleOf keys) role n 0 (WithEntry codes valid h body keys done kind x d)
+-- from entry start - 1 and each entry before it of its role; from none where start is 0
+abbrev pub WithEach : List ℕ → List ℕ → List ℕ → ℕ → List ℕ → List ℕ → ℕ → ℕ → ℕ → ℕ → Spanned
+WithEach codes valid lists body keys done start kind x d =
+    From (roleOf keys) (roleOf keys (start - 1)) start 0 (WithEntry codes valid lists body keys done kind x d)
+
+-- the body has this head and no other
+pub record OnlyHead (codes lists : List ℕ) (body head : ℕ) : Type 0 where
+  pub low : head < headsIn lists
+  pub of : bodyOfHead codes head ≡ body
+  pub only : (i : ℕ) → i < headsIn lists → bodyOfHead codes i ≡ body → i ≡ head
+
+-- the entries have all that a pair gives a head with the role and the spans v
+abbrev pub AllThere : List ℕ → List ℕ → ℕ → ℕ → Pair → ℕ → Type 0
+AllThere keys spans n role x v = (s : ℕ) → bit (bitAnd (x .spans) v) s ≡ 1 → Has keys spans n (keyOf role (x .set)) s
+
+-- what the entries of a plan give was added to the heads of its body, new entries with their notes
+abbrev pub PlanGains : Plan → List ℕ → List ℕ → List ℕ → List ℕ → List ℕ → List ℕ → List ℕ → ℕ → List ℕ → List ℕ → List ℕ → List ℕ → List ℕ → ℕ → Type 0
+PlanGains p codes valid lists done keys spans notes n keys′ spans′ slots′ links′ notes′ r =
+    Gains (p .limit) keys spans notes n (WithEach codes valid lists (p .body) keys done (p .start) (p .offer .kind) (p .offer .set) (p .offer .spans))
+    (FromHeads codes lists (p .body) (p .own) (Pairing keys done (p .start) (p .offer .kind) (p .offer .set))) keys′ spans′ slots′ links′ notes′ r

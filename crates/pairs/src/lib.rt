@@ -1,251 +1,215 @@
-// What an entry gives with each entry of a role. Sets that it gives wait in 256 places, each once with all its spans, before the heads of a body get them.
-// In all functions b and h are the numbers of bodies and heads, which the contracts name.
+// What an entry gives with each entry of a role, for the heads of a body. For several heads, sets wait before the heads get them, so that each gets an equal set once.
 ghost use mathlib.Core.Path.{_≡_};
-ghost use Prim.Native.Nat.{_+_, _<_, _≤_};
+ghost use mathlib.Core.Bool.{true};
+ghost use Prim.Native.Nat.{ℕ, _+_, _<_, _≤_};
 ghost use lib.ListN.{length, getD};
-ghost use Rattle.store.specs.Entries.{Has};
+ghost use Rattle.store.specs.Entries.{roleIn, Searchable};
 ghost use Rattle.heads.specs.Gaining.{Gains};
-ghost use Rattle.heads.specs.Heads.{Ready, One, Headed};
-ghost use Rattle.pairs.specs.Pairs.{pairSet, pairSpans, WithPair, WithEach};
-ghost use Rattle.pairs.specs.Waiting.{Waiting, Placed, United, Full};
+ghost use Rattle.heads.specs.Heads.{Ready, Headed, FromHeads};
+ghost use Rattle.waiting.specs.Waiting.{Waits, Partnered};
+ghost use Rattle.pairs.specs.Pairs.{OnlyHead, AllThere, PlanGains};
+use heads::Gift;
+use waiting::Offer;
+use waiting::Pair;
 
-fn wide(x: u16) -> usize
-    ensures { λ r. ⌜ r ≡ x ⌝ }
-{
-    x as usize
+// A body, an offer of the entry with the word `own`, and entry start - 1 with those before it in its role's list, which are paired with it.
+pub struct Plan {
+    pub limit: usize,
+    pub body: usize,
+    pub start: usize,
+    pub own: u16,
+    pub offer: Offer,
 }
 
-// The place of a set among the first count, or count, to which the tree then leads. Were an equal set missed, only time would be lost.
-fn place_of(sets: &[u64], tree: &mut [u16], count: usize, set: u64) -> usize
-    requires { ⌜ (length (now sets) ≡ 256) × (length (now tree) ≡ 513) × (count < 256) × (set < 4294967296) ⌝ }
-    ensures { λ r. ⌜ Placed (now (sets .entry)) count set r ⌝ }
-{
-    let mut x = set * 2654435761 % 4294967296;
-    let mut p = 0;
-    let mut left: usize = 33;
-    while left != 0 {
-        let c = wide(tree[p]);
-        if count <= c {
-            tree[p] = count as u16;
-            return count;
-        }
-        if sets[c] == set {
-            return c;
-        }
-        p = 2 * c + 1 + (x / 2147483648) as usize;
-        x = x * 2 % 4294967296;
-        left -= 1;
-    }
-    count
-}
-
-// Joins a set in spans m to its equal among the first count, or gives it a new place.
-fn unite(
-    sets: &mut [u64],
-    masks: &mut [u64],
-    tree: &mut [u16],
-    count: usize,
-    set: u64,
-    m: u64,
-) -> usize
-    requires { ⌜ Waiting (now sets) (now masks) count ⌝ ∗ ⌜ (length (now tree) ≡ 513) × (count < 256) × (set < 4294967296) ⌝ }
-    ensures { λ r. ⌜ United (now (sets .entry)) (now (masks .entry)) count (One set m) (now (sets .exit)) (now (masks .exit)) r ⌝ }
-{
-    let p = place_of(sets, tree, count, set);
-    if p < count {
-        masks[p] = masks[p] | m;
-        return count;
-    }
-    sets[count] = set;
-    masks[count] = m;
-    tree[2 * count + 1] = 65535;
-    tree[2 * count + 2] = 65535;
-    count + 1
-}
-
-// The spans of m in which x and y give a set.
-fn pair_spans(kind: u32, x: u64, y: u64, m: u64) -> u64
-    ensures { λ r. ⌜ r ≡ pairSpans kind x y m ⌝ }
-{
-    if kind == 5 {
-        if x & y != 0 {
-            return 0;
-        }
-    }
-    m
-}
-
-// The set that they give.
-fn pair_set(kind: u32, x: u64, y: u64) -> u64
-    ensures { λ r. ⌜ r ≡ pairSet kind x y ⌝ }
-{
-    if kind == 2 {
-        return y;
-    }
-    x | y
-}
-
-// Unites the set that x and y give.
-fn unite_pair(
-    sets: &mut [u64],
-    masks: &mut [u64],
-    tree: &mut [u16],
-    count: usize,
-    kind: u32,
-    x: u64,
-    y: u64,
-    m: u64,
-) -> usize
-    requires { ⌜ Waiting (now sets) (now masks) count ⌝ ∗ ⌜ (length (now tree) ≡ 513) × (count < 256) ⌝ ∗ ⌜ (x < 4294967296) × (y < 4294967296) ⌝ }
-    ensures { λ r. ⌜ United (now (sets .entry)) (now (masks .entry)) count (WithPair kind x y m) (now (sets .exit)) (now (masks .exit)) r ⌝ }
-{
-    let v = pair_spans(kind, x, y, m);
-    if v == 0 {
-        return count;
-    }
-    let set = pair_set(kind, x, y);
-    unite(sets, masks, tree, count, set, v)
-}
-
-// Adds it to the heads of a body.
-fn add_pair(
-    keys: &mut [u64],
-    spans: &mut [u64],
-    slots: &mut [u16],
-    links: &mut [u16],
-    codes: &[u32],
-    valid: &[u64],
-    lists: &[u16],
-    b: usize,
-    h: usize,
+// Adds what the entries give to the heads of the body.
+pub fn with_each(
+    keys: &mut [u64; 1024],
+    spans: &mut [u64; 1024],
+    slots: &mut [u16; 3072],
+    links: &mut [u16; 2048],
+    notes: &mut [u16; 4096],
+    done: &[u64; 1024],
+    codes: &[u32; 1024],
+    valid: &[u64; 512],
+    lists: &[u16; 3106],
     n: usize,
-    limit: usize,
-    body: usize,
-    kind: u32,
-    x: u64,
-    y: u64,
-    m: u64,
+    p: Plan,
 ) -> usize
-    requires { ⌜ Ready (now keys) (now spans) (now slots) (now links) n limit (now codes) (now valid) (now lists) b h body ⌝ ∗ ⌜ (x < 4294967296) × (y < 4294967296) ⌝ }
-    ensures { λ r. ⌜ Gains limit (now (keys .entry)) (now (spans .entry)) n (Headed (now (codes .entry)) (now (valid .entry)) h body (WithPair kind x y m)) (now (keys .exit)) (now (spans .exit)) (now (slots .exit)) (now (links .exit)) r ⌝ }
+    requires { ⌜ Ready (now keys) (now spans) (now slots) (now links) (now notes) n (p .limit) (now codes) (now valid) (now lists) (p .body) ⌝ ∗ ⌜ (p .start ≤ n) × (p .offer .set < 4294967296) × (p .own ≤ n) ⌝ }
+    ensures { λ r. ⌜ PlanGains p (now (codes .entry)) (now (valid .entry)) (now (lists .entry)) (now (done .entry)) (now (keys .entry)) (now (spans .entry)) (now (notes .entry)) n (now (keys .exit)) (now (spans .exit)) (now (slots .exit)) (now (links .exit)) (now (notes .exit)) r ⌝ }
 {
-    let v = pair_spans(kind, x, y, m);
-    if v == 0 {
+    let c = rules::first_head(lists, p.body);
+    if c == 0 {
         return n;
     }
-    let set = pair_set(kind, x, y);
-    heads::add_heads(
+    if rules::next_head(lists, c) == 0 {
+        return with_head(
+            keys,
+            spans,
+            slots,
+            links,
+            notes,
+            done,
+            codes,
+            valid,
+            lists,
+            n,
+            p,
+            c - 1,
+        );
+    }
+    let mut places = waiting::room();
+    with_room(
         keys,
         spans,
         slots,
         links,
+        notes,
+        &mut places,
+        done,
         codes,
         valid,
         lists,
-        b,
-        h,
         n,
-        limit,
-        body,
-        set,
-        v,
+        p,
     )
 }
 
-// From each entry of a role, pair by pair.
-fn add_each(
-    keys: &mut [u64],
-    spans: &mut [u64],
-    slots: &mut [u16],
-    links: &mut [u16],
-    done: &[u64],
-    codes: &[u32],
-    valid: &[u64],
-    lists: &[u16],
-    b: usize,
-    h: usize,
+// Adds what the entries give to the one head of the body.
+fn with_head(
+    keys: &mut [u64; 1024],
+    spans: &mut [u64; 1024],
+    slots: &mut [u16; 3072],
+    links: &mut [u16; 2048],
+    notes: &mut [u16; 4096],
+    done: &[u64; 1024],
+    codes: &[u32; 1024],
+    valid: &[u64; 512],
+    lists: &[u16; 3106],
     n: usize,
-    limit: usize,
-    body: usize,
-    kind: u32,
-    role: usize,
-    x: u64,
-    d: u64,
+    p: Plan,
+    head: usize,
 ) -> usize
-    requires { ⌜ Ready (now keys) (now spans) (now slots) (now links) n limit (now codes) (now valid) (now lists) b h body ⌝ ∗ ⌜ (n ≤ length (now done)) × (x < 4294967296) × (role < 1024) ⌝ }
-    ensures { λ r. ⌜ Gains limit (now (keys .entry)) (now (spans .entry)) n (WithEach (now (codes .entry)) (now (valid .entry)) h body (now (keys .entry)) (now (done .entry)) n kind role x d) (now (keys .exit)) (now (spans .exit)) (now (slots .exit)) (now (links .exit)) r ⌝ }
+    requires { ⌜ Ready (now keys) (now spans) (now slots) (now links) (now notes) n (p .limit) (now codes) (now valid) (now lists) (p .body) ⌝ ∗ ⌜ (p .start ≤ n) × (p .offer .set < 4294967296) × (p .own ≤ n) ⌝ ∗ ⌜ OnlyHead (now codes) (now lists) (p .body) head ⌝ }
+    ensures { λ r. ⌜ PlanGains p (now (codes .entry)) (now (valid .entry)) (now (lists .entry)) (now (done .entry)) (now (keys .entry)) (now (spans .entry)) (now (notes .entry)) n (now (keys .exit)) (now (spans .exit)) (now (slots .exit)) (now (links .exit)) (now (notes .exit)) r ⌝ }
 {
+    let limit = p.limit;
+    let role = rules::head_role(codes, head);
+    let v = valid[head];
+    let o = p.offer;
     let mut r = n;
-    let mut place = wide(links[1024 + role]);
-    while place != 0 {
-        let y = keys[place - 1] % 4294967296;
-        let m = d & done[place - 1];
-        r = add_pair(
-            keys,
-            spans,
-            slots,
-            links,
-            codes,
-            valid,
-            lists,
-            b,
-            h,
-            r,
-            limit,
-            body,
-            kind,
-            x,
-            y,
-            m,
-        );
-        if limit < r {
-            return r;
+    let mut at = p.start;
+    while at != 0 {
+        let x = waiting::pair_at(keys, done, o, at - 1);
+        if !has(keys, spans, slots, r, role, x, v) {
+            let g = Gift {
+                limit,
+                body: p.body,
+                set: x.set,
+                spans: x.spans,
+                own: p.own,
+                other: at as u16,
+            };
+            r = heads::add_head(
+                keys,
+                spans,
+                slots,
+                links,
+                notes,
+                codes,
+                valid,
+                lists,
+                r,
+                g,
+                head,
+            );
+            if limit < r {
+                return r;
+            }
         }
-        place = wide(links[place - 1]);
+        at = store::wide(links[at - 1]);
     }
     r
 }
 
-// Adds the sets that wait to the heads of a body.
-fn add_waiting(
-    keys: &mut [u64],
-    spans: &mut [u64],
-    slots: &mut [u16],
-    links: &mut [u16],
-    codes: &[u32],
-    valid: &[u64],
-    lists: &[u16],
-    b: usize,
-    h: usize,
+// Adds what the entries give to the heads of the body, with room for sets that wait.
+fn with_room(
+    keys: &mut [u64; 1024],
+    spans: &mut [u64; 1024],
+    slots: &mut [u16; 3072],
+    links: &mut [u16; 2048],
+    notes: &mut [u16; 4096],
+    places: &mut [u64; 257],
+    done: &[u64; 1024],
+    codes: &[u32; 1024],
+    valid: &[u64; 512],
+    lists: &[u16; 3106],
     n: usize,
-    limit: usize,
-    body: usize,
-    sets: &[u64],
-    masks: &[u64],
-    count: usize,
+    p: Plan,
 ) -> usize
-    requires { ⌜ Ready (now keys) (now spans) (now slots) (now links) n limit (now codes) (now valid) (now lists) b h body ⌝ ∗ ⌜ Waiting (now sets) (now masks) count ⌝ }
-    ensures { λ r. ⌜ Gains limit (now (keys .entry)) (now (spans .entry)) n (Headed (now (codes .entry)) (now (valid .entry)) h body (Has (now (sets .entry)) (now (masks .entry)) count)) (now (keys .exit)) (now (spans .exit)) (now (slots .exit)) (now (links .exit)) r ⌝ }
+    requires { ⌜ Ready (now keys) (now spans) (now slots) (now links) (now notes) n (p .limit) (now codes) (now valid) (now lists) (p .body) ⌝ ∗ ⌜ (p .start ≤ n) × (p .offer .set < 4294967296) × (p .own ≤ n) ⌝ ∗ ⌜ length (now places) ≡ 257 ⌝ }
+    ensures { λ r. ⌜ PlanGains p (now (codes .entry)) (now (valid .entry)) (now (lists .entry)) (now (done .entry)) (now (keys .entry)) (now (spans .entry)) (now (notes .entry)) n (now (keys .exit)) (now (spans .exit)) (now (slots .exit)) (now (links .exit)) (now (notes .exit)) r ⌝ }
 {
+    let limit = p.limit;
+    let o = p.offer;
     let mut r = n;
-    let mut i = 0;
-    while i < count {
-        r = heads::add_heads(
+    let mut at = p.start;
+    while at != 0 {
+        let g = waiting::gather(places, keys, links, done, o, at);
+        r = add_waiting(
             keys,
             spans,
             slots,
             links,
+            notes,
             codes,
             valid,
             lists,
-            b,
-            h,
+            places,
             r,
-            limit,
-            body,
-            sets[i],
-            masks[i],
+            p,
+            g.count,
         );
+        if limit < r {
+            return r;
+        }
+        at = g.at;
+    }
+    r
+}
+
+// Adds the sets that wait to the heads of the body.
+fn add_waiting(
+    keys: &mut [u64; 1024],
+    spans: &mut [u64; 1024],
+    slots: &mut [u16; 3072],
+    links: &mut [u16; 2048],
+    notes: &mut [u16; 4096],
+    codes: &[u32; 1024],
+    valid: &[u64; 512],
+    lists: &[u16; 3106],
+    places: &[u64; 257],
+    n: usize,
+    p: Plan,
+    count: usize,
+) -> usize
+    requires { ⌜ Ready (now keys) (now spans) (now slots) (now links) (now notes) n (p .limit) (now codes) (now valid) (now lists) (p .body) ⌝ ∗ ⌜ (count ≤ 64) × (p .own ≤ n) ⌝ ∗ ⌜ ((i : ℕ) → i < count → roleIn (getD (now places) i 0) ≤ n) ⌝ }
+    ensures { λ r. ⌜ Gains (p .limit) (now (keys .entry)) (now (spans .entry)) (now (notes .entry)) n (Headed (now (codes .entry)) (now (valid .entry)) (now (lists .entry)) (p .body) (Waits (now (places .entry)) count)) (FromHeads (now (codes .entry)) (now (lists .entry)) (p .body) (p .own) (Partnered (now (places .entry)) count)) (now (keys .exit)) (now (spans .exit)) (now (slots .exit)) (now (links .exit)) (now (notes .exit)) r ⌝ }
+{
+    let limit = p.limit;
+    let mut r = n;
+    let mut i = 0;
+    while i < count {
+        let x = places[i];
+        let g = Gift {
+            limit,
+            body: p.body,
+            set: store::set_of(x),
+            spans: places[64 + i],
+            own: p.own,
+            other: store::role_of(x) as u16,
+        };
+        r = heads::add_heads(keys, spans, slots, links, notes, codes, valid, lists, r, g);
         if limit < r {
             return r;
         }
@@ -254,210 +218,22 @@ fn add_waiting(
     r
 }
 
-// The same, if no place is left.
-fn add_full(
-    keys: &mut [u64],
-    spans: &mut [u64],
-    slots: &mut [u16],
-    links: &mut [u16],
-    codes: &[u32],
-    valid: &[u64],
-    lists: &[u16],
-    b: usize,
-    h: usize,
+// Whether an entry is known to have all that a pair gives a head with the role and the spans v.
+fn has(
+    keys: &[u64; 1024],
+    spans: &[u64; 1024],
+    slots: &[u16; 3072],
     n: usize,
-    limit: usize,
-    body: usize,
-    sets: &[u64],
-    masks: &[u64],
-    count: usize,
-) -> usize
-    requires { ⌜ Ready (now keys) (now spans) (now slots) (now links) n limit (now codes) (now valid) (now lists) b h body ⌝ ∗ ⌜ Waiting (now sets) (now masks) count ⌝ }
-    ensures { λ r. ⌜ Gains limit (now (keys .entry)) (now (spans .entry)) n (Headed (now (codes .entry)) (now (valid .entry)) h body (Full (now (sets .entry)) (now (masks .entry)) count)) (now (keys .exit)) (now (spans .exit)) (now (slots .exit)) (now (links .exit)) r ⌝ }
-{
-    if count < 256 {
-        return n;
-    }
-    add_waiting(
-        keys,
-        spans,
-        slots,
-        links,
-        codes,
-        valid,
-        lists,
-        b,
-        h,
-        n,
-        limit,
-        body,
-        sets,
-        masks,
-        count,
-    )
-}
-
-// From each entry of a role, with room for the sets that wait.
-fn with_room(
-    keys: &mut [u64],
-    spans: &mut [u64],
-    slots: &mut [u16],
-    links: &mut [u16],
-    sets: &mut [u64],
-    masks: &mut [u64],
-    tree: &mut [u16],
-    done: &[u64],
-    codes: &[u32],
-    valid: &[u64],
-    lists: &[u16],
-    b: usize,
-    h: usize,
-    n: usize,
-    limit: usize,
-    body: usize,
-    kind: u32,
     role: usize,
-    x: u64,
-    d: u64,
-) -> usize
-    requires { ⌜ Ready (now keys) (now spans) (now slots) (now links) n limit (now codes) (now valid) (now lists) b h body ⌝ ∗ ⌜ (n ≤ length (now done)) × (x < 4294967296) × (role < 1024) ⌝ ∗ ⌜ (length (now sets) ≡ 256) × (length (now masks) ≡ 256) × (length (now tree) ≡ 513) ⌝ }
-    ensures { λ r. ⌜ Gains limit (now (keys .entry)) (now (spans .entry)) n (WithEach (now (codes .entry)) (now (valid .entry)) h body (now (keys .entry)) (now (done .entry)) n kind role x d) (now (keys .exit)) (now (spans .exit)) (now (slots .exit)) (now (links .exit)) r ⌝ }
+    x: Pair,
+    v: u64,
+) -> bool
+    requires { ⌜ Searchable (now keys) (now slots) n ⌝ ∗ ⌜ (length (now keys) ≡ 1024) × (length (now slots) ≡ 3072) × (n ≤ 1024) ⌝ ∗ ⌜ (role < 1024) × (x .set < 4294967296) ⌝ }
+    ensures { λ r. ⌜ (r ≡ true → AllThere (now (keys .entry)) (now (spans .entry)) n role x v) ⌝ }
 {
-    let mut r = n;
-    let mut count = 0;
-    let mut at = wide(links[1024 + role]);
-    while at != 0 {
-        r = add_full(
-            keys,
-            spans,
-            slots,
-            links,
-            codes,
-            valid,
-            lists,
-            b,
-            h,
-            r,
-            limit,
-            body,
-            sets,
-            masks,
-            count,
-        );
-        if limit < r {
-            return r;
-        }
-        let y = keys[at - 1] % 4294967296;
-        let m = d & done[at - 1];
-        count = unite_pair(sets, masks, tree, count % 256, kind, x, y, m);
-        at = wide(links[at - 1]);
+    let m = x.spans & v;
+    if m == 0 {
+        return true;
     }
-    add_waiting(
-        keys,
-        spans,
-        slots,
-        links,
-        codes,
-        valid,
-        lists,
-        b,
-        h,
-        r,
-        limit,
-        body,
-        sets,
-        masks,
-        count,
-    )
-}
-
-fn room_for_sets() -> [u64; 256]
-    ensures { λ r. ⌜ length r ≡ 256 ⌝ }
-{
-    [0; 256]
-}
-
-fn room_for_tree() -> [u16; 513]
-    ensures { λ r. ⌜ length r ≡ 513 ⌝ }
-{
-    [0; 513]
-}
-
-// Whether a body has one head. Either answer is right for `with_each`, a wrong one would cost time.
-fn one_head(lists: &[u16], body: usize) -> bool
-    requires { ⌜ (length (now lists) ≡ 2592) × (body < 512) × (getD (now lists) (2080 + body) 0 ≤ 512) ⌝ }
-{
-    let c = wide(lists[2080 + body]);
-    lists[1567 + c] == 0
-}
-
-// From each entry of a role.
-pub fn with_each(
-    keys: &mut [u64],
-    spans: &mut [u64],
-    slots: &mut [u16],
-    links: &mut [u16],
-    done: &[u64],
-    codes: &[u32],
-    valid: &[u64],
-    lists: &[u16],
-    b: usize,
-    h: usize,
-    n: usize,
-    limit: usize,
-    body: usize,
-    kind: u32,
-    role: usize,
-    x: u64,
-    d: u64,
-) -> usize
-    requires { ⌜ Ready (now keys) (now spans) (now slots) (now links) n limit (now codes) (now valid) (now lists) b h body ⌝ ∗ ⌜ (n ≤ length (now done)) × (x < 4294967296) × (role < 1024) ⌝ }
-    ensures { λ r. ⌜ Gains limit (now (keys .entry)) (now (spans .entry)) n (WithEach (now (codes .entry)) (now (valid .entry)) h body (now (keys .entry)) (now (done .entry)) n kind role x d) (now (keys .exit)) (now (spans .exit)) (now (slots .exit)) (now (links .exit)) r ⌝ }
-{
-    if one_head(lists, body) {
-        return add_each(
-            keys,
-            spans,
-            slots,
-            links,
-            done,
-            codes,
-            valid,
-            lists,
-            b,
-            h,
-            n,
-            limit,
-            body,
-            kind,
-            role,
-            x,
-            d,
-        );
-    }
-    let mut sets = room_for_sets();
-    let mut masks = room_for_sets();
-    let mut tree = room_for_tree();
-    with_room(
-        keys,
-        spans,
-        slots,
-        links,
-        &mut sets,
-        &mut masks,
-        &mut tree,
-        done,
-        codes,
-        valid,
-        lists,
-        b,
-        h,
-        n,
-        limit,
-        body,
-        kind,
-        role,
-        x,
-        d,
-    )
+    store::known(keys, spans, slots, n, store::key_of(role, x.set), m)
 }

@@ -2,13 +2,9 @@
 // at the minute: step count and level, then each step on a line; or `refused`, number, place.
 ghost use mathlib.Core.Path.{_≡_};
 ghost use mathlib.Core.Bool.{cond, _&&_};
-ghost use Prim.Native.Nat.{_+_, _*_, _≤_};
+ghost use Prim.Native.Nat.{_+_, _*_};
 ghost use lib.Dec.{ltb};
-ghost use lib.ListN.{length};
 use file::Found;
-use libc::STDERR_FILENO;
-use libc::STDIN_FILENO;
-use libc::STDOUT_FILENO;
 use notation::Step;
 use querying::Answer;
 use text::Parsed;
@@ -18,45 +14,13 @@ enum Request {
     Unclear,
 }
 
-// One byte more than the longest valid file, so that a longer input is refused as one.
-fn room() -> [u8; 4103]
-    ensures { λ r. ⌜ 4103 ≡ length r ⌝ }
-{
-    [0; 4103]
-}
-
-fn words() -> [u32; 1024]
-    ensures { λ r. ⌜ 1024 ≡ length r ⌝ }
-{
-    [0; 1024]
-}
-
-// Writes the first n bytes of a line.
-fn write_line(line: &[u8], n: usize)
-    requires { ⌜ n ≤ length (now line) ⌝ }
-{
-    io::write_all(STDOUT_FILENO, &line[..n]);
-}
-
-fn print_pair(x: u32, y: u32) {
-    let mut line = [0u8; 128];
-    let n = text::pair_line(&mut line, x, y);
-    write_line(&line, n);
-}
-
-fn print_refusal(number: u32, place: u32) {
-    let mut line = [0u8; 128];
-    let n = text::refused_line(&mut line, number, place);
-    write_line(&line, n);
-}
-
 // Every step of a proof names a credential of the file.
 fn print_step(file: &[u8], number: u32, s: Step) {
     match file::read_credential(file, s.credential as usize) {
         Found::Credential(c) => {
             let mut line = [0u8; 128];
             let n = notation::step_line(&mut line, number, s, c);
-            write_line(&line, n);
+            console::write_line(&line, n);
         }
         Found::End => {}
     }
@@ -88,10 +52,10 @@ fn print_steps(
 }
 
 fn print_proof(file: &[u8], role: u32, set: u32, minute: u32) {
-    let mut credential = words();
-    let mut first = words();
-    let mut second = words();
-    let mut sets = words();
+    let mut credential = console::numbers32();
+    let mut first = console::numbers32();
+    let mut second = console::numbers32();
+    let mut sets = console::numbers32();
     let answer = querying::query(
         file,
         role,
@@ -104,11 +68,11 @@ fn print_proof(file: &[u8], role: u32, set: u32, minute: u32) {
     );
     match answer {
         Answer::Proof { steps, level } => {
-            print_pair(steps, level);
+            console::print_pair(steps, level);
             print_steps(file, &credential, &first, &second, &sets, steps);
         }
         Answer::Refused { number, place } => {
-            print_refusal(number, place);
+            console::print_refusal(number, place);
         }
     }
 }
@@ -156,24 +120,15 @@ fn asked() -> Request {
     }
 }
 
-fn print_usage() {
-    io::write_all(
-        STDERR_FILENO,
-        b"usage: proof ISSUER NAME SET MINUTE < FILE\n",
-    );
-    io::write_all(
-        STDERR_FILENO,
-        b"Four numbers in decimal, up to 4294967295. SET has bit e for entity e. FILE is a credentials file.\n",
-    );
-}
-
 fn main() {
     match asked() {
         Request::Query { role, set, minute } => {
-            let mut buffer = room();
-            let n = io::read_full(STDIN_FILENO, &mut buffer);
+            let mut buffer = console::room();
+            let n = console::read(&mut buffer);
             print_proof(&buffer[..n], role, set, minute);
         }
-        Request::Unclear => print_usage(),
+        Request::Unclear => console::usage(
+            b"usage: proof ISSUER NAME SET MINUTE < FILE\nFour numbers in decimal, up to 4294967295. SET has bit e for entity e. FILE is a credentials file.\n",
+        ),
     }
 }

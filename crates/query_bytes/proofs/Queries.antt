@@ -9,12 +9,11 @@ use lib.ListN.{length, take, drop}
 use Rattle.meaning.specs.Lists.{if}
 use Rattle.meaning.specs.Members.{members}
 use Rattle.meaning.specs.Proofs.{Step}
-use Rattle.file.specs.Refusals.{Outcome, done, first, _when_}
+use Rattle.file.specs.Refusals.{Outcome, done, first, _when_, left}
 use Rattle.file.specs.Format.{credentials}
 use Rattle.file.specs.Reading.{between, reading}
 use Rattle.asking.specs.Asking.{Request, StepLists, stepLists, within, asking}
 use Rattle.derivation.specs.Derivation.{words}
-use Rattle.completing.specs.Completing.{left}
 use Rattle.querying.specs.Querying.{Counts, counts, fullRow, noneRow, levelFor, replyWith, Ending, querying, Queried}
 use Rattle.codec.specs.Bytes.{bytesOf, entries}
 use Rattle.codec.proofs.Entries.{length-entries}

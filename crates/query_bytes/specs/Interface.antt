@@ -5,10 +5,9 @@ use Prim.Native.Nat.{ℕ, _+_, _*_, _≤_}
 use lib.ListN.{length}
 use Rattle.meaning.specs.Lists.{if}
 use Rattle.meaning.specs.Proofs.{Step}
-use Rattle.file.specs.Refusals.{Outcome, done}
+use Rattle.file.specs.Refusals.{Outcome, done, left}
 use Rattle.file.specs.Format.{credentials}
 use Rattle.asking.specs.Asking.{Request, StepLists, stepLists}
-use Rattle.completing.specs.Completing.{left}
 use Rattle.derivation.specs.Derivation.{HandedOut, words}
 use Rattle.querying.specs.Querying.{Counts, counts, replyWith, Ending, ending}
 use Rattle.codec.specs.Bytes.{bytesOf}

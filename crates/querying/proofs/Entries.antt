@@ -19,13 +19,14 @@ use Rattle.meaning.proofs.Rows.{key, valid-fits, members-ascending, members-der
 use Rattle.meaning.proofs.Least.{least-below, least-counted, provable-derivable}
 use Rattle.store.specs.Entries.{keyOf, roleIn, setIn}
 use Rattle.store.proofs.Keys.{role-of-key, set-of-key}
-use Rattle.derivation.specs.Derivation.{stepOf, shownOf, levelOf}
+use Rattle.derivation.specs.Derivation.{stepOf, shownOf}
+use Rattle.store.specs.Notes.{levelOf}
 use Rattle.derivation.proofs.Positions.{shown-sound}
 use Rattle.writing.specs.Columns.{rowsOf}
 use Rattle.writing.proofs.Gathering.{keys-ascending, rows-gathered, rows-length}
 use Rattle.searching.specs.Searching.{Searched}
 
-module _ (cs : List Credential) (w : FitsAll cs) (m limit : ℕ) {keys slots links notes : List ℕ} {r : ℕ} (s : Searched cs m limit keys slots links notes r) (l : r ≤ limit) where
+module _ (cs : List Credential) (w : FitsAll cs) (m limit : ℕ) {keys slots notes : List ℕ} {r : ℕ} (s : Searched cs m limit keys slots notes r) (l : r ≤ limit) where
   -- an entry is a membership, at its level
   entry-level : (i : ℕ) → i < r → S (validAt cs m) (levelOf notes i) (roleIn (getD keys i 0)) (setIn (getD keys i 0))
   entry-level = shown-sound cs m (stepOf keys notes) (shownOf keys notes) r (λ i h. s .derivation l .derived i h .holds)

@@ -9,16 +9,16 @@ use borrow.Author.Tests.{eq-eqb, ne-eqb}
 use lib.Dec.{ltb}
 use lib.ListN.{length, replicate}
 use Rattle.meaning.specs.Lists.{if}
+use Rattle.meaning.specs.Credentials.{Credential}
 use Rattle.meaning.specs.Members.{member, has, members}
 use Rattle.meaning.specs.Proofs.{Step}
 use Rattle.file.specs.declared.Refusal.{Refusal}
 use Rattle.file.specs.Values.{firstRefusal}
-use Rattle.file.specs.Refusals.{Outcome, done, refused, first}
+use Rattle.file.specs.Refusals.{Outcome, done, refused, first, left}
 use Rattle.file.specs.Format.{credentials}
 use Rattle.asking.specs.Asking.{Request, StepLists, stepLists, size, asking}
 use Rattle.asking.proofs.Asked.{asked-refused, asked-passed, asked-low}
 use Rattle.derivation.specs.Derivation.{HandedOut, words}
-use Rattle.completing.specs.Completing.{left}
 use Rattle.querying.specs.declared.Search.{Search}
 use Rattle.querying.specs.Querying.{Counts, counts, fullRow, noneRow, levelFor, replyWith, ending, querying, Queried}
 use Rattle.querying.specs.Working.{replyOf, Worked}
@@ -70,7 +70,11 @@ module _ (f : List ℕ) (q : Request) (t : StepLists) where
         no-13 : r .number ≡ 13 → ⊥
         no-13 z = omega (arith, asked-low f q t r e h .1)
 
-    module _ (none : r .number ≡ 0) {L : ℕ} (same : L ≡ size t) {credential first′ second sets : List ℕ} {s : Search} (w : Worked f q L credential first′ second sets s) where
+    -- the search was by the credentials of the file
+    module _ (none : r .number ≡ 0) {cs : List Credential} (means : cs ≡ credentials f) {L : ℕ} (same : L ≡ size t) {credential first′ second sets : List ℕ} {s : Search} (worked : Worked cs q L credential first′ second sets s) where
+      w : Worked (credentials f) q L credential first′ second sets s
+      w = subst (λ (cs : List Credential). Worked cs q L credential first′ second sets s) means worked
+
       passed : replyWith f q t (w .steps) ≡ replyOf s
       unfolding replyWith
       passed =

@@ -4,39 +4,28 @@ use mathlib.Core.Bool.{Bool, true, false, _&&_}
 use mathlib.Core.List.{List, []}
 use Prim.Native.Nat.{ℕ, zero, suc, _-_, _^_, _≤_, _<_}
 use native.Mathlib.Omega.{arith}
-use borrow.Author.Tests.{lt-ltb, le-ltb}
+use borrow.Author.Tests.{lt-ltb, le-ltb, eq-eqb}
 use lib.Dec.{T, eqb, leb, ltb, eqb→eq, leb→le, lt→ltb}
-use lib.ListN.{length, getD, replicate, length-replicate}
+use lib.ListN.{length, getD}
+use Rattle.meaning.specs.Lists.{if}
 use Rattle.meaning.specs.Credentials.{Credential, FitsAll, credentialAt}
-use Rattle.meaning.specs.Members.{members}
+use Rattle.meaning.specs.Members.{member, members, leastLevel}
 use Rattle.meaning.specs.Proofs.{citesFirst, citesSecond}
 use Rattle.meaning.proofs.Tests.{and-left, and-right}
 use Rattle.file.specs.Reading.{between}
-use Rattle.file.specs.Format.{credentials}
-use Rattle.file.specs.Conditions.{Accepted}
-use Rattle.file.proofs.Accepted.{accepted-fits}
-use Rattle.asking.specs.Asking.{Request, StepLists, size, oneLength}
+use Rattle.file.specs.Refusals.{done, refused}
+use Rattle.asking.specs.Asking.{Request, StepLists, size, oneLength, Askable}
+use Rattle.asking.proofs.Asked.{within-bits}
 use Rattle.store.specs.Entries.{keyOf, roleIn, setIn}
+use Rattle.store.specs.Notes.{word, levelOf}
 use Rattle.store.proofs.Keys.{role-of-key, set-of-key}
-use Rattle.derivation.specs.Derivation.{Citable, word, levelOf, Derivation, HandedOut}
-use Rattle.searching.specs.Searching.{Empty, Searched}
-use Rattle.answering.specs.Answering.{Citing, Answered}
-use Rattle.completing.proofs.Working.{none-done}
+use Rattle.derivation.specs.Derivation.{Citable, Derivation, HandedOut}
+use Rattle.searching.specs.Searching.{Searched}
+use Rattle.answering.specs.Answering.{Citing}
 use Rattle.querying.specs.declared.Search.{Search}
-use Rattle.file.specs.Refusals.{done}
-use Rattle.querying.specs.Querying.{counts, levelFor}
-use Rattle.querying.specs.Working.{Worked}
+use Rattle.querying.specs.Querying.{counts}
+use Rattle.querying.specs.Working.{Worked, HandsOut}
 use Rattle.querying.proofs.Entries.{members-few, entry-has, no-entry, entry-least}
-
--- a store of zeros
-pub empty : {keys slots links notes codes lists sources : List ℕ} → length keys ≡ 1024 → slots ≡ replicate 3072 0 → links ≡ replicate 2048 0 → length notes ≡ 4096 → length codes ≡ 1024 → lists ≡ replicate 2592 0 → length sources ≡ 512 → Empty keys slots links notes codes lists sources
-empty k s l n c u r = record {
-  uses = (c, ap length u ∙ length-replicate {A = ℕ} 2592 0, r);
-  listed = λ p _. none-done 2592 u p;
-  room = (k, ap length s ∙ length-replicate {A = ℕ} 3072 0, ap length l ∙ length-replicate {A = ℕ} 2048 0, n);
-  slotted = λ p _. none-done 3072 s p;
-  linked = λ p _. none-done 2048 l p;
-}
 
 -- lists of one length
 pub same-lengths : (t : StepLists) → oneLength t ≡ true → (length (t .first) ≡ size t) × (length (t .second) ≡ size t) × (length (t .sets) ≡ size t) × (size t ≤ 1024)
@@ -77,15 +66,16 @@ citing {cs} {m} {keys} {notes} {n} d i h =
     low true (suc w) e k = let l : suc w - 1 < i = k in omega arith
     low false (suc w) e k = absurd (subst⁻¹ T e (lt→ltb 0 (suc w) (omega arith)))
 
-module _ (f : List ℕ) (accepted : Accepted f) (q : Request) (limit : ℕ) {keys slots links notes : List ℕ} {n : ℕ} (s : Searched (credentials f) (q .minute) limit keys slots links notes n) where
-  fits : FitsAll (credentials f)
-  fits = accepted-fits f accepted
+-- a role of a request that is not refused is below 32 × 32
+pub role-below : {f : List ℕ} {q : Request} {t : StepLists} → Askable f q t → q .role < 1024
+role-below {f} {q} {t} a = omega (arith, within-bits f (q .role) (q .set) .0 (a .within) .0, a .accepted .head .limits .entities .1)
 
+module _ (cs : List Credential) (fits : FitsAll cs) (q : Request) (limit : ℕ) {keys slots notes : List ℕ} {n : ℕ} (s : Searched cs (q .minute) limit keys slots notes n) where
   -- 10
-  pub search-over : limit < n → {xs ys zs us : List ℕ} {r : Search} → r ≡ record { number = 10; steps = 0; level = 0 } → Worked f q limit xs ys zs us r
-  search-over h {xs} {ys} {zs} {us} e = subst⁻¹ (Worked f q limit xs ys zs us) e (record {
+  pub search-over : limit < n → {xs ys zs us : List ℕ} {r : Search} → r ≡ record { number = 10; steps = 0; level = 0 } → Worked cs q limit xs ys zs us r
+  search-over h {xs} {ys} {zs} {us} e = subst⁻¹ (Worked cs q limit xs ys zs us) e (record {
     steps = [];
-    reply = rw (lt-ltb limit (length (members (credentials f) (q .minute))) (s .over h)) refl;
+    reply = rw (lt-ltb limit (length (members cs (q .minute))) (s .over h)) refl;
     byCredential = λ z. absurd (omega arith);
     byFirst = λ z. absurd (omega arith);
     bySecond = λ z. absurd (omega arith);
@@ -94,14 +84,14 @@ module _ (f : List ℕ) (accepted : Accepted f) (q : Request) (limit : ℕ) {key
   })
 
   module _ (l : n ≤ limit) (small : q .set < 2 ^ 32) where
-    few : ltb limit (length (members (credentials f) (q .minute))) ≡ false
-    few = le-ltb limit (length (members (credentials f) (q .minute))) (omega (arith, members-few (credentials f) fits (q .minute) limit s l))
+    few : ltb limit (length (members cs (q .minute))) ≡ false
+    few = le-ltb limit (length (members cs (q .minute))) (omega (arith, members-few cs fits (q .minute) limit s l))
 
     -- 13
-    pub search-none : ((i : ℕ) → i < n → getD keys i 0 ≡ keyOf (q .role) (q .set) → ⊥) → {xs ys zs us : List ℕ} {r : Search} → r ≡ record { number = 13; steps = 0; level = 0 } → Worked f q limit xs ys zs us r
-    search-none h {xs} {ys} {zs} {us} e = subst⁻¹ (Worked f q limit xs ys zs us) e (record {
+    pub search-none : ((i : ℕ) → i < n → getD keys i 0 ≡ keyOf (q .role) (q .set) → ⊥) → {xs ys zs us : List ℕ} {r : Search} → r ≡ record { number = 13; steps = 0; level = 0 } → Worked cs q limit xs ys zs us r
+    search-none h {xs} {ys} {zs} {us} e = subst⁻¹ (Worked cs q limit xs ys zs us) e (record {
       steps = [];
-      reply = rw (few, no-entry (credentials f) fits (q .minute) limit s l (q .role) (q .set) small h) refl;
+      reply = rw (few, no-entry cs fits (q .minute) limit s l (q .role) (q .set) small h) refl;
       byCredential = λ z. absurd (omega arith);
       byFirst = λ z. absurd (omega arith);
       bySecond = λ z. absurd (omega arith);
@@ -110,23 +100,31 @@ module _ (f : List ℕ) (accepted : Accepted f) (q : Request) (limit : ℕ) {key
     })
 
     -- a proof
-    module _ (x : ℕ) (h : x < n) (at : getD keys x 0 ≡ keyOf (q .role) (q .set)) {xs ys zs us : List ℕ} {k : ℕ} (a : Answered keys notes n x limit xs ys zs us k) where
-      level : levelOf notes x ≡ levelFor f q
-      level = entry-least (credentials f) fits (q .minute) limit s l (q .role) (q .set) small x h at
+    module _ (x : ℕ) (at : (x < n) × (getD keys x 0 ≡ keyOf (q .role) (q .set))) {xs ys zs us : List ℕ} {r : Search} (h : HandsOut keys notes n x limit xs ys zs us r) where
+      abbrev least : ℕ
+      least = leastLevel cs (q .minute) (member (q .role) (q .set))
 
-      pub search-found : Worked f q limit xs ys zs us (record { number = 0; steps = k; level = levelOf notes x })
-      search-found = record {
-        steps = a .steps;
-        reply = (λ i. done (counts (a .count i) (level i))) ∙ rw (few, entry-has (credentials f) fits (q .minute) limit s l (q .role) (q .set) small x h at) refl;
-        byCredential = λ _. a .byCredential;
-        byFirst = λ _. a .byFirst;
-        bySecond = λ _. a .bySecond;
-        bySet = λ _. a .bySet;
-        handed = λ _. (
-          subst (λ (j : ℕ). HandedOut (credentials f) (q .minute) (q .role) (q .set) j (a .steps)) level
-              (subst (λ (X : ℕ). HandedOut (credentials f) (q .minute) (q .role) X (levelOf notes x) (a .steps)) (ap setIn at ∙ set-of-key (q .role) (q .set) small)
-              (subst (λ (R : ℕ). HandedOut (credentials f) (q .minute) R (setIn (getD keys x 0)) (levelOf notes x) (a .steps)) (ap roleIn at ∙ role-of-key (q .role) (q .set) small)
-              (a .handed (credentials f) (q .minute) (s .derivation l)))),
-          omega (arith, a .count, a .few),
-        );
-      }
+      level : levelOf notes x ≡ least
+      level = entry-least cs fits (q .minute) limit s l (q .role) (q .set) small x (at .0) (at .1)
+
+      pub search-found : Worked cs q limit xs ys zs us r
+      search-found =
+          let a = h .answered in
+          record {
+            steps = a .steps;
+            reply =
+                ap (λ (b : Bool). if b (done (counts (r .steps) (r .level))) (refused (r .number) 0)) (eq-eqb (r .number) 0 (h .number))
+                ∙ (λ i. done (counts (a .count i) ((h .level ∙ level) i)))
+                ∙ rw (few, entry-has cs fits (q .minute) limit s l (q .role) (q .set) small x (at .0) (at .1)) refl;
+            byCredential = λ _. a .byCredential;
+            byFirst = λ _. a .byFirst;
+            bySecond = λ _. a .bySecond;
+            bySet = λ _. a .bySet;
+            handed = λ _. (
+              subst (λ (j : ℕ). HandedOut cs (q .minute) (q .role) (q .set) j (a .steps)) level
+                  (subst (λ (X : ℕ). HandedOut cs (q .minute) (q .role) X (levelOf notes x) (a .steps)) (ap setIn (at .1) ∙ set-of-key (q .role) (q .set) small)
+                  (subst (λ (R : ℕ). HandedOut cs (q .minute) R (setIn (getD keys x 0)) (levelOf notes x) (a .steps)) (ap roleIn (at .1) ∙ role-of-key (q .role) (q .set) small)
+                  (a .handed cs (q .minute) (s .derivation l)))),
+              omega (arith, a .count, a .few, at .0),
+            );
+          }

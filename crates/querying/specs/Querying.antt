@@ -7,11 +7,10 @@ use lib.Dec.{ltb}
 use lib.ListN.{length}
 use Rattle.meaning.specs.Members.{member, has, members, leastLevel}
 use Rattle.meaning.specs.Proofs.{Step}
-use Rattle.file.specs.Refusals.{Row, Outcome, done, refused, first, _when_}
+use Rattle.file.specs.Refusals.{Row, Outcome, done, refused, first, _when_, left}
 use Rattle.file.specs.Format.{credentials}
 use Rattle.asking.specs.Asking.{Request, StepLists, stepLists, size, asking}
 use Rattle.derivation.specs.Derivation.{HandedOut, words}
-use Rattle.completing.specs.Completing.{left}
 use Rattle.querying.specs.declared.Answer.{Answer}
 use Rattle.querying.specs.declared.Answer.the-variants as A
 

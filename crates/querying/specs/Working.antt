@@ -1,33 +1,44 @@
 -- What the inner functions of querying leave.
 use mathlib.Core.Path.{_≡_}
+use mathlib.Core.Bool.{not}
 use mathlib.Core.List.{List, [], _∷_}
-use Prim.Native.Nat.{ℕ, suc, _≤_, _<_}
-use lib.Dec.{eqb}
-use lib.ListN.{length, getD}
+use Prim.Native.Nat.{ℕ, _≤_}
+use lib.Dec.{eqb, ltb}
+use lib.ListN.{length}
 use Rattle.meaning.specs.Lists.{if}
+use Rattle.meaning.specs.Credentials.{Credential}
+use Rattle.meaning.specs.Members.{member, has, members, leastLevel}
 use Rattle.meaning.specs.Proofs.{Step}
-use Rattle.file.specs.Refusals.{Outcome, done, refused, first}
-use Rattle.file.specs.Format.{credentials}
+use Rattle.file.specs.Refusals.{Outcome, done, refused, first, _when_}
+use Rattle.store.specs.Notes.{levelOf}
 use Rattle.asking.specs.Asking.{Request}
 use Rattle.derivation.specs.Derivation.{HandedOut, words}
-use Rattle.querying.specs.Querying.{Counts, counts, fullRow, noneRow, levelFor}
+use Rattle.answering.specs.Answering.{Answered}
+use Rattle.querying.specs.Querying.{Counts, counts}
 use Rattle.querying.specs.declared.Search.{Search}
-
--- r is one more than the number of the entry with the key among the first n, or 0 where there is none
-pub record EntryOf (keys : List ℕ) (n key r : ℕ) : Type 0 where
-  pub absent : r ≡ 0 → (i : ℕ) → i < n → getD keys i 0 ≡ key → ⊥
-  pub present : (i : ℕ) → r ≡ suc i → (i < n) × (getD keys i 0 ≡ key)
 
 -- a refusal where the number is not 0, otherwise step count and level
 abbrev pub replyOf : Search → Outcome Counts
 replyOf r = if (eqb (r .number) 0) (done (counts (r .steps) (r .level))) (refused (r .number) 0)
 
--- 10, 13 or a proof, where nothing above them was refused; a proof stands in the lists
-pub record Worked (f : List ℕ) (q : Request) (L : ℕ) (credential first′ second sets : List ℕ) (r : Search) : Type 0 where
+-- what is answered where nothing above 10 was refused, by some credentials: 10, 13, or the counts of the steps handed out
+abbrev pub lastReply : List Credential → Request → ℕ → List Step → Outcome Counts
+lastReply cs q L ss =
+    first (10 when (ltb L (length (members cs (q .minute)))) ∷ 13 when (not (has (member (q .role) (q .set)) (members cs (q .minute)))) ∷ [])
+    (counts (length ss) (leastLevel cs (q .minute) (member (q .role) (q .set))))
+
+-- 10, 13 or a proof, which then stands in the lists
+pub record Worked (cs : List Credential) (q : Request) (L : ℕ) (credential first′ second sets : List ℕ) (r : Search) : Type 0 where
   pub steps : List Step
-  pub reply : replyOf r ≡ first (fullRow f q L ∷ noneRow f q ∷ []) (counts (length steps) (levelFor f q))
+  pub reply : replyOf r ≡ lastReply cs q L steps
   pub byCredential : r .number ≡ 0 → credential ≡ words (λ s. s .credential) L steps
   pub byFirst : r .number ≡ 0 → first′ ≡ words (λ s. s .first) L steps
   pub bySecond : r .number ≡ 0 → second ≡ words (λ s. s .second) L steps
   pub bySet : r .number ≡ 0 → sets ≡ words (λ s. s .set) L steps
-  pub handed : r .number ≡ 0 → HandedOut (credentials f) (q .minute) (q .role) (q .set) (levelFor f q) steps × (length steps ≤ L)
+  pub handed : r .number ≡ 0 → HandedOut cs (q .minute) (q .role) (q .set) (leastLevel cs (q .minute) (member (q .role) (q .set))) steps × (length steps ≤ L)
+
+-- the proof of entry x stands in the lists, with its step count and level
+pub record HandsOut (keys notes : List ℕ) (n x L : ℕ) (credential first′ second sets : List ℕ) (r : Search) : Type 0 where
+  pub number : r .number ≡ 0
+  pub answered : Answered keys notes n x L credential first′ second sets (r .steps)
+  pub level : r .level ≡ levelOf notes x

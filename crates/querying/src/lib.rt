@@ -1,15 +1,14 @@
 // Querying: a proof of least level for one role, set and minute, or a refusal.
 ghost use mathlib.Core.Path.{_≡_};
 ghost use Prim.Native.Nat.{_≤_, _<_};
-ghost use lib.ListN.{length, replicate};
-ghost use Rattle.store.specs.Entries.{keyOf, Searchable};
-ghost use Rattle.derivation.specs.Derivation.{levelOf};
-ghost use Rattle.file.specs.Conditions.{Accepted};
-ghost use Rattle.policy.specs.Policy.{PolicyOf};
+ghost use lib.ListN.{length};
+ghost use Rattle.meaning.specs.Credentials.{FitsAll};
+ghost use Rattle.store.specs.Notes.{levelOf};
+ghost use Rattle.policy.specs.Policy.{credentialsOf, Decoded};
 ghost use Rattle.asking.specs.Asking.{request, stepLists};
-ghost use Rattle.searching.specs.Searching.{Empty};
+ghost use Rattle.answering.specs.Answering.{Citing};
 ghost use Rattle.querying.specs.Querying.{Queried, says};
-ghost use Rattle.querying.specs.Working.{EntryOf, Worked};
+ghost use Rattle.querying.specs.Working.{Worked, HandsOut};
 
 // How many steps the proof has, and its level; or a refusal.
 pub enum Answer {
@@ -22,178 +21,6 @@ struct Search {
     number: u32,
     steps: u32,
     level: u32,
-}
-
-fn room_for_keys() -> [u64; 1024]
-    ensures { λ r. ⌜ length r ≡ 1024 ⌝ }
-{
-    [0; 1024]
-}
-
-fn room_for_slots() -> [u16; 3072]
-    ensures { λ r. ⌜ r ≡ replicate 3072 0 ⌝ }
-{
-    [0; 3072]
-}
-
-fn room_for_links() -> [u16; 2048]
-    ensures { λ r. ⌜ r ≡ replicate 2048 0 ⌝ }
-{
-    [0; 2048]
-}
-
-fn room_for_notes() -> [u16; 4096]
-    ensures { λ r. ⌜ length r ≡ 4096 ⌝ }
-{
-    [0; 4096]
-}
-
-fn room_for_codes() -> [u32; 1024]
-    ensures { λ r. ⌜ length r ≡ 1024 ⌝ }
-{
-    [0; 1024]
-}
-
-fn room_for_lists() -> [u16; 2592]
-    ensures { λ r. ⌜ r ≡ replicate 2592 0 ⌝ }
-{
-    [0; 2592]
-}
-
-fn room_for_sources() -> [u16; 512]
-    ensures { λ r. ⌜ length r ≡ 512 ⌝ }
-{
-    [0; 512]
-}
-
-fn key_of(role: u32, set: u32) -> u64
-    ensures { λ r. ⌜ r ≡ keyOf role set ⌝ }
-{
-    role as u64 * 4294967296 + set as u64
-}
-
-fn refusal(number: u32) -> Search
-    ensures { λ r. ⌜ r ≡ record { number = number; steps = 0; level = 0 } ⌝ }
-{
-    Search {
-        number,
-        steps: 0,
-        level: 0,
-    }
-}
-
-// One more than the number of the entry with the key, or 0.
-fn entry_of(keys: &[u64], slots: &[u16], n: usize, key: u64) -> usize
-    requires { ⌜ Searchable (now keys) (now slots) n ⌝ ∗ ⌜ (length (now keys) ≡ 1024) × (length (now slots) ≡ 3072) × (n ≤ 1024) ⌝ }
-    ensures { λ r. ⌜ EntryOf (now (keys .entry)) n key r ⌝ }
-{
-    let p = store::find(keys, slots, n, key);
-    slots[p] as usize
-}
-
-fn level_of(notes: &[u16], x: usize) -> u32
-    requires { ⌜ (length (now notes) ≡ 4096) × (x < 1024) ⌝ }
-    ensures { λ r. ⌜ r ≡ levelOf (now (notes .entry)) x ⌝ }
-{
-    notes[4 * x + 3] as u32
-}
-
-// Searches, and writes the proof of the membership's entry where there is one.
-fn work(
-    credential: &mut [u32],
-    first: &mut [u32],
-    second: &mut [u32],
-    sets: &mut [u32],
-    keys: &mut [u64],
-    slots: &mut [u16],
-    links: &mut [u16],
-    notes: &mut [u16],
-    codes: &mut [u32],
-    lists: &mut [u16],
-    sources: &mut [u16],
-    file: &[u8],
-    policy: &[u64; 512],
-    count: usize,
-    role: u32,
-    set: u32,
-    minute: u32,
-) -> Search
-    requires { ⌜ Accepted (now file) ⌝ ∗ ⌜ PolicyOf (now file) (now policy) count ⌝ ∗ ⌜ Empty (now keys) (now slots) (now links) (now notes) (now codes) (now lists) (now sources) ⌝ ∗ ⌜ (length (now first) ≡ length (now credential)) × (length (now second) ≡ length (now credential)) × (length (now sets) ≡ length (now credential)) × (length (now credential) ≤ 1024) ⌝ }
-    ensures { λ r. ⌜ Worked (now (file .entry)) (request role set minute) (length (now (credential .entry))) (now (credential .exit)) (now (first .exit)) (now (second .exit)) (now (sets .exit)) r ⌝ }
-{
-    let limit = credential.len();
-    let n = searching::search(
-        keys,
-        slots,
-        links,
-        notes,
-        codes,
-        lists,
-        sources,
-        file,
-        policy,
-        count,
-        minute,
-        limit,
-    );
-    if limit < n {
-        return refusal(10);
-    }
-    let c = entry_of(keys, slots, n, key_of(role, set));
-    if c == 0 {
-        return refusal(13);
-    }
-    let x = c - 1;
-    let steps = answering::answer(credential, first, second, sets, keys, notes, n, x);
-    Search {
-        number: 0,
-        steps: steps as u32,
-        level: level_of(notes, x),
-    }
-}
-
-// With a store of its own.
-fn run(
-    credential: &mut [u32],
-    first: &mut [u32],
-    second: &mut [u32],
-    sets: &mut [u32],
-    file: &[u8],
-    policy: &[u64; 512],
-    count: usize,
-    role: u32,
-    set: u32,
-    minute: u32,
-) -> Search
-    requires { ⌜ Accepted (now file) ⌝ ∗ ⌜ PolicyOf (now file) (now policy) count ⌝ ∗ ⌜ (length (now first) ≡ length (now credential)) × (length (now second) ≡ length (now credential)) × (length (now sets) ≡ length (now credential)) × (length (now credential) ≤ 1024) ⌝ }
-    ensures { λ r. ⌜ Worked (now (file .entry)) (request role set minute) (length (now (credential .entry))) (now (credential .exit)) (now (first .exit)) (now (second .exit)) (now (sets .exit)) r ⌝ }
-{
-    let mut keys = room_for_keys();
-    let mut slots = room_for_slots();
-    let mut links = room_for_links();
-    let mut notes = room_for_notes();
-    let mut codes = room_for_codes();
-    let mut lists = room_for_lists();
-    let mut sources = room_for_sources();
-    work(
-        credential,
-        first,
-        second,
-        sets,
-        &mut keys,
-        &mut slots,
-        &mut links,
-        &mut notes,
-        &mut codes,
-        &mut lists,
-        &mut sources,
-        file,
-        policy,
-        count,
-        role,
-        set,
-        minute,
-    )
 }
 
 // A proof of the membership at the minute, written into the four lists.
@@ -232,7 +59,6 @@ pub fn query(
         first,
         second,
         sets,
-        file,
         &policy,
         j.credentials,
         role,
@@ -253,4 +79,88 @@ pub fn query(
         steps: r.steps,
         level: r.level,
     }
+}
+
+// Searches in a store of its own, and writes the proof of the membership's entry where there is one.
+fn run(
+    credential: &mut [u32],
+    first: &mut [u32],
+    second: &mut [u32],
+    sets: &mut [u32],
+    policy: &[u64; 512],
+    count: usize,
+    role: u32,
+    set: u32,
+    minute: u32,
+) -> Search
+    requires { ⌜ Decoded (now policy) count ⌝ ∗ ⌜ FitsAll (credentialsOf (now policy) count) ⌝ ∗ ⌜ role < 1024 ⌝ ∗ ⌜ (length (now first) ≡ length (now credential)) × (length (now second) ≡ length (now credential)) × (length (now sets) ≡ length (now credential)) × (length (now credential) ≤ 1024) ⌝ }
+    ensures { λ r. ⌜ Worked (credentialsOf (now (policy .entry)) count) (request role set minute) (length (now (credential .entry))) (now (credential .exit)) (now (first .exit)) (now (second .exit)) (now (sets .exit)) r ⌝ }
+{
+    let limit = credential.len();
+    let mut keys = store::room_for_keys();
+    let mut slots = store::room_for_slots();
+    let mut notes = store::room_for_notes();
+    let n = searching::search(
+        &mut keys,
+        &mut slots,
+        &mut notes,
+        policy,
+        count,
+        minute,
+        limit,
+    );
+    if limit < n {
+        return refusal(10);
+    }
+    let key = store::key_of(role as usize, set as u64);
+    let c = store::entry_of(&keys, &slots, n, key);
+    if c == 0 {
+        return refusal(13);
+    }
+    hand_out(credential, first, second, sets, &keys, &notes, n, c - 1)
+}
+
+// Writes the proof of entry x.
+fn hand_out(
+    credential: &mut [u32],
+    first: &mut [u32],
+    second: &mut [u32],
+    sets: &mut [u32],
+    keys: &[u64; 1024],
+    notes: &[u16; 4096],
+    n: usize,
+    x: usize,
+) -> Search
+    requires { ⌜ (length (now keys) ≡ 1024) × (length (now notes) ≡ 4096) × (x < n) ⌝ ∗ ⌜ Citing (now notes) n ⌝ ∗ ⌜ (length (now first) ≡ length (now credential)) × (length (now second) ≡ length (now credential)) × (length (now sets) ≡ length (now credential)) × (n ≤ length (now credential)) × (length (now credential) ≤ 1024) ⌝ }
+    ensures { λ r. ⌜ HandsOut (now (keys .entry)) (now (notes .entry)) n x (length (now (credential .entry))) (now (credential .exit)) (now (first .exit)) (now (second .exit)) (now (sets .exit)) r ⌝ }
+{
+    let steps = answering::answer(credential, first, second, sets, keys, notes, n, x);
+    Search {
+        number: 0,
+        steps: steps as u32,
+        level: level_of(notes, x),
+    }
+}
+
+fn refusal(number: u32) -> Search
+    ensures { λ r. ⌜ r ≡ record { number = number; steps = 0; level = 0 } ⌝ }
+{
+    Search {
+        number,
+        steps: 0,
+        level: 0,
+    }
+}
+
+fn level_of(notes: &[u16; 4096], x: usize) -> u32
+    requires { ⌜ (length (now notes) ≡ 4096) × (x < 1024) ⌝ }
+    ensures { λ r. ⌜ r ≡ levelOf (now (notes .entry)) x ⌝ }
+{
+    wide(notes[4 * x + 3])
+}
+
+fn wide(x: u16) -> u32
+    ensures { λ r. ⌜ r ≡ x ⌝ }
+{
+    x as u32
 }

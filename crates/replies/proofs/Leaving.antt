@@ -9,8 +9,7 @@ use lib.Dec.{T}
 use lib.ListN.{length, take, drop, replicate}
 use lib.Seq.{drop-length, length-take-le, length-front, take-at}
 use Rattle.meaning.specs.Lists.{if}
-use Rattle.file.specs.Refusals.{Outcome, done, refused}
-use Rattle.completing.specs.Completing.{left}
+use Rattle.file.specs.Refusals.{Outcome, done, refused, left}
 use Rattle.codec.specs.Bytes.{bytesOf}
 use Rattle.codec.proofs.Entries.{bytesOf-zeros}
 use Rattle.replies.specs.Replies.{writes}

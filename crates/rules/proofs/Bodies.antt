@@ -8,9 +8,11 @@ use native.Mathlib.Numerals.{add-one}
 use native.Mathlib.Omega.{arith}
 use lib.ListN.{getD, set, length-set}
 use lib.Seq.{getD-set-same, getD-set-other}
+use Rattle.store.specs.Entries.{Chained}
 use Rattle.store.proofs.Chains.{last-or-below, chained-same}
-use Rattle.rules.specs.Uses.{Use, bodyCode, familyIn, bodyIn, Listed, Uses, Fitting}
-use Rattle.rules.specs.Places.{linked, BodyPlaced}
+use Rattle.rules.specs.declared.Use.{Use}
+use Rattle.rules.specs.Uses.{bodyCode, familyIn, bodyIn, familyOf, bodyOfHead, sourceIn, bodiesIn, headsIn, Listed, Uses, Fitting}
+use Rattle.rules.specs.Places.{linked, withBody, BodyPlaced}
 use Rattle.rules.proofs.CodeLaws.{family-in-code, body-in-code}
 use Rattle.rules.proofs.Linking.{linked-length, linked-other, linked-chained}
 
@@ -23,20 +25,20 @@ family-of u f = family-in-code (u .family) (u .kind) (u .other) (f .kind) (f .ot
 -- ---- a body is placed
 
 -- the same uses, with the body at place r
-pub record Bodied (u : Use) (codes valid : List ℕ) (b h : ℕ) (codes′ lists′ : List ℕ) (r b′ : ℕ) : Type 0 where
-  pub listed : Listed codes′ valid lists′ b′ h
-  pub low : r < b′
+pub record Bodied (u : Use) (codes valid lists codes′ lists′ : List ℕ) (r : ℕ) : Type 0 where
+  pub listed : Listed codes′ valid lists′
+  pub low : r < bodiesIn lists′
   pub coded : getD codes′ r 0 ≡ codeOf u
-  pub same : (w : Use) (s : ℕ) → Fitting w → Uses codes′ valid b′ h w s ↔ Uses codes valid b h w s
-  pub others : (i : ℕ) → i < b′ → (getD codes′ i 0 ≡ codeOf u) ⊎ ((i < b) × (getD codes′ i 0 ≡ getD codes i 0))
-  pub more : b ≤ b′
-  pub bodies : (i : ℕ) → i < b → getD codes′ i 0 ≡ getD codes i 0
+  pub same : (w : Use) (s : ℕ) → Fitting w → Uses codes′ valid lists′ w s ↔ Uses codes valid lists w s
+  pub others : (i : ℕ) → i < bodiesIn lists′ → (getD codes′ i 0 ≡ codeOf u) ⊎ ((i < bodiesIn lists) × (getD codes′ i 0 ≡ getD codes i 0))
+  pub one : (bodiesIn lists ≤ bodiesIn lists′) × (bodiesIn lists′ ≤ bodiesIn lists + 1)
+  pub none : headsIn lists′ ≡ headsIn lists
+  pub bodies : (i : ℕ) → i < bodiesIn lists → getD codes′ i 0 ≡ getD codes i 0
   pub heads : (i : ℕ) → getD codes′ (512 + i) 0 ≡ getD codes (512 + i) 0
-  pub new : r ≡ b → b′ ≡ b + 1
-  pub known : (r ≡ b → ⊥) → b′ ≡ b
+  pub sources : (i : ℕ) → i < 512 → sourceIn lists′ i ≡ sourceIn lists i
 
-module _ (u : Use) (fit : Fitting u) {codes valid lists : List ℕ} {b h : ℕ} (l : Listed codes valid lists b h) (few : b < 512) where
-  body-known : (r : ℕ) → r < b → getD codes r 0 ≡ codeOf u → Bodied u codes valid b h codes lists r b
+module _ (u : Use) (fit : Fitting u) {codes valid lists : List ℕ} (l : Listed codes valid lists) (few : bodiesIn lists < 512) where
+  body-known : (r : ℕ) → r < bodiesIn lists → getD codes r 0 ≡ codeOf u → Bodied u codes valid lists codes lists r
   body-known r k e =
       record {
         listed = l;
@@ -44,18 +46,21 @@ module _ (u : Use) (fit : Fitting u) {codes valid lists : List ℕ} {b h : ℕ} 
         coded = e;
         same = λ w s f. ((λ x. x), λ x. x);
         others = λ i j. inr (j, refl);
-        more = le-refl b;
+        one = (omega arith, omega arith);
+        none = refl;
         bodies = λ i _. refl;
         heads = λ i. refl;
-        new = λ q. absurd (omega arith);
-        known = λ q. refl;
+        sources = λ i _. refl;
       }
+
+  abbrev b : ℕ
+  b = bodiesIn lists
 
   codes′ : List ℕ
   codes′ = set codes b (codeOf u)
 
   lists′ : List ℕ
-  lists′ = linked lists 0 512 b (u .family)
+  lists′ = withBody lists (u .family)
 
   at-body : getD codes′ b 0 ≡ codeOf u
   unfolding codes′
@@ -65,62 +70,91 @@ module _ (u : Use) (fit : Fitting u) {codes valid lists : List ℕ} {b h : ℕ} 
   unfolding codes′
   at-other i ne = getD-set-other codes b i (codeOf u) 0 ne
 
-  list-other : (p : ℕ) → (p ≡ b → ⊥) → (p ≡ 512 + u .family → ⊥) → getD lists′ p 0 ≡ getD lists p 0
+  -- all but the number of bodies is as in `linked`
+  list-linked : (p : ℕ) → (p ≡ 3104 → ⊥) → getD lists′ p 0 ≡ getD (linked lists 0 512 b (u .family)) p 0
   unfolding lists′
-  list-other p n m = linked-other lists 0 512 b (u .family) p (λ q. n (q ∙ zero-add b)) m
+  list-linked p n = getD-set-other (linked lists 0 512 b (u .family)) 3104 p (b + 1) 0 n
 
-  new-listed : Listed codes′ valid lists′ (suc b) h
+  list-other : (p : ℕ) → (p ≡ 3104 → ⊥) → (p ≡ b → ⊥) → (p ≡ 512 + u .family → ⊥) → getD lists′ p 0 ≡ getD lists p 0
+  list-other p c n m = list-linked p c ∙ linked-other lists 0 512 b (u .family) p (λ q. n (q ∙ zero-add b)) m
+
+  -- the places after the lists of the bodies are as they were
+  list-after : (p : ℕ) → 1568 ≤ p → (p ≡ 3104 → ⊥) → getD lists′ p 0 ≡ getD lists p 0
+  list-after p k c = list-other p c (λ q. omega arith) (λ q. omega (arith, fit .family))
+
+  one-more : bodiesIn lists′ ≡ suc b
+  unfolding lists′
+  one-more = getD-set-same (linked lists 0 512 b (u .family)) 3104 (b + 1) 0 (omega (arith, linked-length lists 0 512 b (u .family), l .room .2)) ∙ add-one b
+
+  same-heads : headsIn lists′ ≡ headsIn lists
+  same-heads = list-after 3105 (omega arith) (λ q. omega arith)
+
+  new-families : (i : ℕ) → (i ≡ b) ⊎ (i < b) → familyOf codes′ i < 1056
+  new-families i (inl e) = rw (e, at-body, family-of u fit) (fit .family)
+  new-families i (inr k) = rw (at-other i (λ q. omega arith)) (l .families i k)
+
+  new-lists : Chained (familyOf codes′) 1056 (suc b) (λ r. getD lists′ (512 + r) 0) (λ i. getD lists′ i 0)
+  new-lists =
+      chained-same (familyOf codes′) (λ r. getD lists′ (512 + r) 0) (λ i. getD lists′ i 0)
+      (linked-chained lists 0 512 (u .family) (familyOf codes′)
+      (chained-same (familyOf codes) (λ r. getD lists (512 + r) 0) (λ i. getD lists (0 + i) 0) (l .byFamily) (λ i k. refl) (λ r k. refl)
+      (λ i k. ap (λ (x : ℕ). getD lists x 0) (zero-add i)))
+      (λ i k. ap familyIn (at-other i (λ q. omega arith)))
+      (ap familyIn at-body ∙ family-of u fit)
+      (fit .family) (omega arith) (omega (arith, l .room .2)))
+      (λ i k. refl)
+      (λ r k. list-linked (512 + r) (λ q. omega arith))
+      (λ i k. list-linked i (λ q. omega arith) ∙ ap (λ (x : ℕ). getD (linked lists 0 512 b (u .family)) x 0) (sym (zero-add i)))
+
+  new-listed : Listed codes′ valid lists′
   unfolding codes′ lists′
   new-listed =
       record {
-        room = (length-set codes b (codeOf u) ∙ l .room .0, l .room .1, linked-length lists 0 512 b (u .family) ∙ l .room .2);
-        few = (few, l .few .1);
-        families = λ i k. families i (last-or-below k);
-        bodies = λ i k. rw (at-other (512 + i) (λ q. omega arith)) (let q = l .bodies i k in omega arith);
-        byFamily =
-            chained-same (λ i. familyIn (getD codes′ i 0)) (λ r. getD lists′ (512 + r) 0) (λ i. getD lists′ i 0)
-            (linked-chained lists 0 512 (u .family) (λ i. familyIn (getD codes′ i 0))
-            (chained-same (λ i. familyIn (getD codes i 0)) (λ r. getD lists (512 + r) 0) (λ i. getD lists (0 + i) 0) (l .byFamily) (λ i k. refl) (λ r k. refl)
-            (λ i k. ap (λ (x : ℕ). getD lists x 0) (zero-add i)))
-            (λ i k. ap familyIn (at-other i (λ q. omega arith)))
-            (ap familyIn at-body ∙ family-of u fit)
-            (fit .family) (omega arith) (omega arith))
-            (λ i k. refl) (λ r k. refl) (λ i k. ap (λ (x : ℕ). getD lists′ x 0) (sym (zero-add i)));
+        room = (
+          length-set codes b (codeOf u) ∙ l .room .0,
+          l .room .1,
+          length-set (linked lists 0 512 b (u .family)) 3104 (b + 1) ∙ linked-length lists 0 512 b (u .family) ∙ l .room .2,
+        );
+        few = (rw one-more few, rw same-heads (l .few .1));
+        families = λ i k. new-families i (last-or-below (rw one-more at k));
+        bodies = λ i k.
+            let q = l .bodies i (rw same-heads at k) in
+            let e = ap bodyIn (at-other (512 + i) (λ q. omega arith)) in
+            omega (arith, one-more);
+        byFamily = rw one-more new-lists;
         byBody =
-            chained-same (λ i. bodyIn (getD codes′ (512 + i) 0)) (λ r. getD lists′ (2080 + r) 0) (λ i. getD lists′ (1568 + i) 0) (l .byBody)
+            rw same-heads
+            (chained-same (bodyOfHead codes′) (λ r. getD lists′ (2080 + r) 0) (λ i. getD lists′ (1568 + i) 0) (l .byBody)
             (λ i k. ap bodyIn (at-other (512 + i) (λ q. omega arith)))
-            (λ r k. list-other (2080 + r) (λ q. omega arith) (λ q. omega (arith, fit .family)))
-            (λ i k. list-other (1568 + i) (λ q. omega arith) (λ q. omega (arith, fit .family)));
+            (λ r k. list-after (2080 + r) (omega arith) (λ q. omega arith))
+            (λ i k. list-after (1568 + i) (omega arith) (λ q. omega (arith, l .few .1))));
       }
-    where
-      families : (i : ℕ) → (i ≡ b) ⊎ (i < b) → familyIn (getD codes′ i 0) < 1056
-      families i (inl e) = rw (e, at-body, family-of u fit) (fit .family)
-      families i (inr k) = rw (at-other i (λ q. omega arith)) (l .families i k)
 
   -- a head's body was there before
-  new-same : (w : Use) (s : ℕ) → Fitting w → Uses codes′ valid (suc b) h w s ↔ Uses codes valid b h w s
+  new-same : (w : Use) (s : ℕ) → Fitting w → Uses codes′ valid lists′ w s ↔ Uses codes valid lists w s
   new-same w s f = (back, to)
     where
-      back : Uses codes′ valid (suc b) h w s → Uses codes valid b h w s
+      back : Uses codes′ valid lists′ w s → Uses codes valid lists w s
       back x =
           let e = sym (at-other (512 + x .head) (λ q. omega arith)) ∙ x .headCoded in
-          let low = l .bodies (x .head) (x .low .1) in
+          let h : x .head < headsIn lists = rw same-heads at (x .low .1) in
+          let low = l .bodies (x .head) h in
           let g = ap bodyIn e ∙ body-in-code (x .body) (w .head) (f .head) in
           record {
             body = x .body;
             head = x .head;
-            low = (omega arith, x .low .1);
+            low = (omega arith, h);
             bodyCoded = sym (at-other (x .body) (λ q. omega arith)) ∙ x .bodyCoded;
             headCoded = e;
             spans = x .spans;
           }
 
-      to : Uses codes valid b h w s → Uses codes′ valid (suc b) h w s
+      to : Uses codes valid lists w s → Uses codes′ valid lists′ w s
       to x =
           record {
             body = x .body;
             head = x .head;
-            low = (omega arith, x .low .1);
+            low = (omega (arith, one-more, x .low .0), rw same-heads (x .low .1));
             bodyCoded = at-other (x .body) (λ q. omega arith) ∙ x .bodyCoded;
             headCoded = at-other (512 + x .head) (λ q. omega arith) ∙ x .headCoded;
             spans = x .spans;
@@ -130,25 +164,25 @@ module _ (u : Use) (fit : Fitting u) {codes valid lists : List ℕ} {b h : ℕ} 
   new-others i (inl e) = inl (ap (λ (x : ℕ). getD codes′ x 0) e ∙ at-body)
   new-others i (inr k) = inr (k, at-other i (λ q. omega arith))
 
-  body-new : Bodied u codes valid b h codes′ lists′ b (suc b)
+  body-new : Bodied u codes valid lists codes′ lists′ b
   body-new =
       record {
         listed = new-listed;
-        low = le-refl (suc b);
+        low = rw one-more (le-refl (suc b));
         coded = at-body;
         same = new-same;
-        others = λ i k. new-others i (last-or-below k);
-        more = omega arith;
+        others = λ i k. new-others i (last-or-below (rw one-more at k));
+        one = (omega (arith, one-more), omega (arith, one-more));
+        none = same-heads;
         bodies = λ i k. at-other i (λ q. omega arith);
         heads = λ i. at-other (512 + i) (λ q. omega arith);
-        new = λ q. sym (add-one b);
-        known = λ q. absurd (q refl);
+        sources = λ i k. list-after (2592 + i) (omega arith) (λ q. omega arith);
       }
 
-  pub body-placed : {codes₁ lists₁ : List ℕ} {r : ℕ} → BodyPlaced codes lists b (u .family) (codeOf u) codes₁ lists₁ r → (b′ : ℕ) × Bodied u codes valid b h codes₁ lists₁ r b′
+  pub body-placed : {codes₁ lists₁ : List ℕ} {r : ℕ} → BodyPlaced codes lists (u .family) (codeOf u) codes₁ lists₁ r → Bodied u codes valid lists codes₁ lists₁ r
   unfolding codes′ lists′
   body-placed {codes₁} {lists₁} {r} p = go (p .placed)
     where
-      go : ((r < b) × (getD codes r 0 ≡ codeOf u) × (codes₁ ≡ codes) × (lists₁ ≡ lists)) ⊎ ((r ≡ b) × (codes₁ ≡ codes′) × (lists₁ ≡ lists′)) → (b′ : ℕ) × Bodied u codes valid b h codes₁ lists₁ r b′
-      go (inl (k, e, f, g)) = (b, rw (f, g) (body-known r k e))
-      go (inr (e, f, g)) = (suc b, rw (e, f, g) body-new)
+      go : ((r < b) × (getD codes r 0 ≡ codeOf u) × (codes₁ ≡ codes) × (lists₁ ≡ lists)) ⊎ ((r ≡ b) × (codes₁ ≡ codes′) × (lists₁ ≡ lists′)) → Bodied u codes valid lists codes₁ lists₁ r
+      go (inl (k, e, f, g)) = rw (f, g) (body-known r k e)
+      go (inr (e, f, g)) = rw (e, f, g) body-new

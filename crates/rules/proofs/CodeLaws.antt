@@ -1,17 +1,13 @@
 -- A body's code and a head's code: what is in them, and that fitting uses with equal codes are equal.
 --
 use mathlib.Core.Path.{_≡_, sym, ap, _∙_}
-use Prim.Native.Nat.{ℕ, _/_, _%_, _<_}
+use Prim.Native.Nat.{ℕ, _%_, _<_}
 use native.Mathlib.Omega.{arith}
-use Rattle.rules.specs.Uses.{Use, useOf, bodyCode, headCode, familyIn, bodyIn, Fitting}
+use Rattle.rules.specs.declared.Use.{Use}
+pub use Rattle.rules.specs.Uses.{kindIn, otherIn}
+use Rattle.rules.specs.Uses.{useOf, bodyCode, headCode, familyIn, bodyIn, Fitting}
 
--- the kind, the other and the head of a code
-abbrev pub kindIn : ℕ → ℕ
-kindIn code = code / 1024 % 8
-
-abbrev pub otherIn : ℕ → ℕ
-otherIn code = code % 1024
-
+-- the head in a code
 abbrev pub headIn : ℕ → ℕ
 headIn code = code % 1024
 

@@ -5,3 +5,4 @@ pub mod Bodies
 pub mod Heads
 pub mod Placing
 pub mod UseLaws
+pub mod Forming

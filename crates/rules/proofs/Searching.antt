@@ -6,15 +6,15 @@ use native.Mathlib.Nat.{zero-add}
 use native.Mathlib.Omega.{arith}
 use lib.ListN.{getD}
 use Rattle.store.proofs.Chains.{latest-below}
-use Rattle.rules.specs.Uses.{familyIn, bodyIn, Listed}
+use Rattle.rules.specs.Uses.{familyOf, bodyOfHead, bodiesIn, headsIn, Listed}
 use Rattle.rules.specs.Places.{Searched}
 
-module _ {codes valid lists : List ℕ} {b h : ℕ} (l : Listed codes valid lists b h) where
-  pub last-body : (f : ℕ) → f < 1056 → getD lists (512 + f) 0 ≤ b
-  last-body f k = subst⁻¹ (λ (x : ℕ). x ≤ b) (l .byFamily .lasts f k) (latest-below (λ i. familyIn (getD codes i 0)) f b)
+module _ {codes valid lists : List ℕ} (l : Listed codes valid lists) where
+  pub last-body : (f : ℕ) → f < 1056 → getD lists (512 + f) 0 ≤ bodiesIn lists
+  last-body f k = subst⁻¹ (λ (x : ℕ). x ≤ bodiesIn lists) (l .byFamily .lasts f k) (latest-below (familyOf codes) f (bodiesIn lists))
 
-  pub last-head : (body : ℕ) → body < 512 → getD lists (2080 + body) 0 ≤ h
-  last-head body k = subst⁻¹ (λ (x : ℕ). x ≤ h) (l .byBody .lasts body k) (latest-below (λ i. bodyIn (getD codes (512 + i) 0)) body h)
+  pub last-head : (body : ℕ) → body < 512 → getD lists (2080 + body) 0 ≤ headsIn lists
+  last-head body k = subst⁻¹ (λ (x : ℕ). x ≤ headsIn lists) (l .byBody .lasts body k) (latest-below (bodyOfHead codes) body (headsIn lists))
 
   pub bodies-searched : (f : ℕ) → f < 1056 → Searched codes lists 0 0 (getD lists (512 + f) 0)
   bodies-searched f k =
@@ -24,7 +24,7 @@ module _ {codes valid lists : List ℕ} {b h : ℕ} (l : Listed codes valid list
         placed = omega arith;
         lower = λ i j.
             subst⁻¹ (λ (x : ℕ). x ≤ i) (ap (λ (x : ℕ). getD lists x 0) (zero-add i) ∙ l .byFamily .prevs i (omega arith))
-            (latest-below (λ i. familyIn (getD codes i 0)) (familyIn (getD codes i 0)) i);
+            (latest-below (familyOf codes) (familyOf codes i) i);
       }
 
   pub heads-searched : (body : ℕ) → body < 512 → Searched codes lists 512 1568 (getD lists (2080 + body) 0)
@@ -35,5 +35,5 @@ module _ {codes valid lists : List ℕ} {b h : ℕ} (l : Listed codes valid list
         placed = omega arith;
         lower = λ i j.
             subst⁻¹ (λ (x : ℕ). x ≤ i) (l .byBody .prevs i (omega arith))
-            (latest-below (λ i. bodyIn (getD codes (512 + i) 0)) (bodyIn (getD codes (512 + i) 0)) i);
+            (latest-below (bodyOfHead codes) (bodyOfHead codes i) i);
       }

@@ -1,25 +1,151 @@
-// The statements of a file by the role of a premise: equal statements once, equal bodies once.
+// The uses of a policy's statements by the role of a premise. Equal statements and equal bodies are looked for and joined, which saves time; no contract promises it. How the uses are
+// laid out is in `Listed`.
 ghost use mathlib.Core.Path.{_≡_};
-ghost use Prim.Native.Nat.{_+_, _<_, _≤_};
-ghost use lib.ListN.{length, getD};
-ghost use Rattle.rules.specs.Uses.{useOf, Fitting, Listed, UseAdded};
+ghost use Prim.Native.Nat.{_+_, _-_, _<_, _≤_};
+ghost use lib.ListN.{length, getD, replicate};
+ghost use Rattle.rules.specs.Uses.{Fitting, headOf, familyIn, kindIn, otherIn, bodiesIn, headsIn, sourceIn, Listed, UseAdded};
 ghost use Rattle.rules.specs.Places.{Searched, Sought, linked, BodyPlaced, HeadPlaced};
 
-// How many bodies and heads there are.
-pub struct Counts {
-    pub bodies: usize,
-    pub heads: usize,
+// A premise's family, the kind, what the other premise is, and the head.
+pub struct Use {
+    pub family: u32,
+    pub kind: u32,
+    pub other: u32,
+    pub head: u32,
 }
 
-// A number of the lists as a place.
-fn wide(x: u16) -> usize
-    ensures { λ r. ⌜ r ≡ x ⌝ }
+// Adds a use in spans v. A head that is new has the source.
+pub fn add_use(
+    codes: &mut [u32; 1024],
+    valid: &mut [u64; 512],
+    lists: &mut [u16; 3106],
+    u: Use,
+    v: u64,
+    source: u16,
+)
+    requires { ⌜ Listed (now codes) (now valid) (now lists) ⌝ ∗ ⌜ (bodiesIn (now lists) < 512) × (headsIn (now lists) < 512) × Fitting u ⌝ }
+    ensures { λ _. ⌜ UseAdded u v source (now (codes .entry)) (now (valid .entry)) (now (lists .entry)) (now (codes .exit)) (now (valid .exit)) (now (lists .exit)) ⌝ }
 {
-    x as usize
+    let body = body_at(
+        codes,
+        lists,
+        u.family as usize,
+        u.family * 8192 + u.kind * 1024 + u.other,
+    );
+    add_head(
+        codes,
+        valid,
+        lists,
+        body,
+        body as u32 * 1024 + u.head,
+        v,
+        source,
+    );
+}
+
+// One more than the latest body of a family, or 0.
+pub fn first_body(lists: &[u16; 3106], family: usize) -> usize
+    requires { ⌜ family < 1056 ⌝ }
+    ensures { λ r. ⌜ r ≡ getD (now (lists .entry)) (512 + family) 0 ⌝ }
+{
+    store::wide(lists[512 + family])
+}
+
+// One more than the body before body at - 1 in its family, or 0.
+pub fn next_body(lists: &[u16; 3106], at: usize) -> usize
+    requires { ⌜ (1 ≤ at) × (at ≤ 512) ⌝ }
+    ensures { λ r. ⌜ r ≡ getD (now (lists .entry)) (at - 1) 0 ⌝ }
+{
+    store::wide(lists[at - 1])
+}
+
+// One more than the latest head of a body, or 0.
+pub fn first_head(lists: &[u16; 3106], body: usize) -> usize
+    requires { ⌜ body < 512 ⌝ }
+    ensures { λ r. ⌜ r ≡ getD (now (lists .entry)) (2080 + body) 0 ⌝ }
+{
+    store::wide(lists[2080 + body])
+}
+
+// One more than the head before head at - 1 of its body, or 0.
+pub fn next_head(lists: &[u16; 3106], at: usize) -> usize
+    requires { ⌜ (1 ≤ at) × (at ≤ 512) ⌝ }
+    ensures { λ r. ⌜ r ≡ getD (now (lists .entry)) (1568 + (at - 1)) 0 ⌝ }
+{
+    store::wide(lists[1567 + at])
+}
+
+// The role of a head.
+pub fn head_role(codes: &[u32; 1024], i: usize) -> usize
+    requires { ⌜ i < 512 ⌝ }
+    ensures { λ r. ⌜ r ≡ headOf (now (codes .entry)) i ⌝ }
+{
+    let code = whole(codes[512 + i]);
+    (code % 1024) as usize
+}
+
+// The source of a head.
+pub fn source_of(lists: &[u16; 3106], i: usize) -> u16
+    requires { ⌜ i < 512 ⌝ }
+    ensures { λ r. ⌜ r ≡ sourceIn (now (lists .entry)) i ⌝ }
+{
+    lists[2592 + i]
+}
+
+// A body's kind, what its other premise is, and its family, all by its code.
+pub fn kind_of(code: u32) -> u32
+    ensures { λ r. ⌜ r ≡ kindIn code ⌝ }
+{
+    code / 1024 % 8
+}
+
+pub fn other_of(code: u32) -> usize
+    ensures { λ r. ⌜ (r ≡ otherIn code) × (r < 1024) ⌝ }
+{
+    (code % 1024) as usize
+}
+
+pub fn family_of(code: u32) -> usize
+    ensures { λ r. ⌜ r ≡ familyIn code ⌝ }
+{
+    (code / 8192) as usize
+}
+
+// Room for codes, for spans of heads, and for lists.
+pub fn room_for_codes() -> [u32; 1024]
+    ensures { λ r. ⌜ r ≡ replicate 1024 0 ⌝ }
+{
+    [0; 1024]
+}
+
+pub fn room_for_valid() -> [u64; 512]
+    ensures { λ r. ⌜ r ≡ replicate 512 0 ⌝ }
+{
+    [0; 512]
+}
+
+pub fn room_for_lists() -> [u16; 3106]
+    ensures { λ r. ⌜ r ≡ replicate 3106 0 ⌝ }
+{
+    [0; 3106]
+}
+
+// The number itself; a number of the list is below 2 ^ 32.
+fn whole(x: u32) -> u32
+    ensures { λ r. ⌜ (r ≡ x) × (x < 4294967296) ⌝ }
+{
+    x
 }
 
 // The item with a code, of a list of items that starts behind `at`: one more than its number, or 0.
-fn search(codes: &[u32], base: usize, lists: &[u16], prev: usize, at: usize, code: u32) -> usize
+fn search(
+    codes: &[u32; 1024],
+    base: usize,
+    lists: &[u16; 3106],
+    prev: usize,
+    at: usize,
+    code: u32,
+) -> usize
     requires { ⌜ Searched (now codes) (now lists) base prev at ⌝ }
     ensures { λ r. ⌜ Sought (now (codes .entry)) base at code r ⌝ }
 {
@@ -28,14 +154,14 @@ fn search(codes: &[u32], base: usize, lists: &[u16], prev: usize, at: usize, cod
         if codes[base + c - 1] == code {
             return c;
         }
-        c = wide(lists[prev + c - 1]);
+        c = store::wide(lists[prev + c - 1]);
     }
     0
 }
 
 // Makes item n the latest of its family.
-fn link(lists: &mut [u16], prev: usize, last: usize, n: usize, family: usize)
-    requires { ⌜ (n < 512) × (prev + n < length (now lists)) × (last + family < length (now lists)) ⌝ }
+fn link(lists: &mut [u16; 3106], prev: usize, last: usize, n: usize, family: usize)
+    requires { ⌜ (length (now lists) ≡ 3106) × (n < 512) × (prev + n < 3106) × (last + family < 3106) ⌝ }
     ensures { λ _. ⌜ now (lists .exit) ≡ linked (now (lists .entry)) prev last n family ⌝ }
 {
     lists[prev + n] = lists[last + family];
@@ -43,73 +169,45 @@ fn link(lists: &mut [u16], prev: usize, last: usize, n: usize, family: usize)
 }
 
 // The place of a body, which is added if it is new.
-fn body_at(codes: &mut [u32], lists: &mut [u16], b: usize, family: usize, code: u32) -> usize
-    requires { ⌜ Searched (now codes) (now lists) 0 0 (getD (now lists) (512 + family) 0) ⌝ ∗ ⌜ (length (now codes) ≡ 1024) × (length (now lists) ≡ 2592) ⌝ ∗ ⌜ (b < 512) × (family < 1056) × (getD (now lists) (512 + family) 0 ≤ b) ⌝ }
-    ensures { λ r. ⌜ BodyPlaced (now (codes .entry)) (now (lists .entry)) b family code (now (codes .exit)) (now (lists .exit)) r ⌝ }
+fn body_at(codes: &mut [u32; 1024], lists: &mut [u16; 3106], family: usize, code: u32) -> usize
+    requires { ⌜ Searched (now codes) (now lists) 0 0 (getD (now lists) (512 + family) 0) ⌝ ∗ ⌜ (length (now codes) ≡ 1024) × (length (now lists) ≡ 3106) ⌝ ∗ ⌜ (bodiesIn (now lists) < 512) × (family < 1056) × (getD (now lists) (512 + family) 0 ≤ bodiesIn (now lists)) ⌝ }
+    ensures { λ r. ⌜ BodyPlaced (now (codes .entry)) (now (lists .entry)) family code (now (codes .exit)) (now (lists .exit)) r ⌝ }
 {
-    let c = search(codes, 0, lists, 0, wide(lists[512 + family]), code);
+    let at = store::wide(lists[512 + family]);
+    let c = search(codes, 0, lists, 0, at, code);
     if c != 0 {
         return c - 1;
     }
+    let b = store::wide(lists[3104]);
     codes[b] = code;
     link(lists, 0, 512, b, family);
+    lists[3104] = (b + 1) as u16;
     b
 }
 
-// Adds spans to a head of a body, which is added if it is new; returns how many heads there are.
+// Adds spans to a head of a body, which is added with its source if it is new.
 fn add_head(
-    codes: &mut [u32],
-    valid: &mut [u64],
-    lists: &mut [u16],
-    h: usize,
+    codes: &mut [u32; 1024],
+    valid: &mut [u64; 512],
+    lists: &mut [u16; 3106],
     body: usize,
     code: u32,
     v: u64,
-) -> usize
-    requires { ⌜ Searched (now codes) (now lists) 512 1568 (getD (now lists) (2080 + body) 0) ⌝ ∗ ⌜ (length (now codes) ≡ 1024) × (length (now valid) ≡ 512) × (length (now lists) ≡ 2592) ⌝ ∗ ⌜ (h < 512) × (body < 512) × (getD (now lists) (2080 + body) 0 ≤ h) ⌝ }
-    ensures { λ r. ⌜ HeadPlaced (now (codes .entry)) (now (valid .entry)) (now (lists .entry)) h body code v (now (codes .exit)) (now (valid .exit)) (now (lists .exit)) r ⌝ }
+    source: u16,
+)
+    requires { ⌜ Searched (now codes) (now lists) 512 1568 (getD (now lists) (2080 + body) 0) ⌝ ∗ ⌜ (length (now codes) ≡ 1024) × (length (now valid) ≡ 512) × (length (now lists) ≡ 3106) ⌝ ∗ ⌜ (headsIn (now lists) < 512) × (body < 512) × (getD (now lists) (2080 + body) 0 ≤ headsIn (now lists)) ⌝ }
+    ensures { λ _. ⌜ HeadPlaced (now (codes .entry)) (now (valid .entry)) (now (lists .entry)) body code v source (now (codes .exit)) (now (valid .exit)) (now (lists .exit)) ⌝ }
 {
-    let c = search(codes, 512, lists, 1568, wide(lists[2080 + body]), code);
+    let at = store::wide(lists[2080 + body]);
+    let c = search(codes, 512, lists, 1568, at, code);
     if c != 0 {
         valid[c - 1] = valid[c - 1] | v;
-        return h;
+        return;
     }
+    let h = store::wide(lists[3105]);
     codes[512 + h] = code;
     valid[h] = v;
     link(lists, 1568, 2080, h, body);
-    h + 1
-}
-
-// Adds a use with its spans.
-pub fn add_use(
-    codes: &mut [u32],
-    valid: &mut [u64],
-    lists: &mut [u16],
-    c: Counts,
-    family: u32,
-    kind: u32,
-    other: u32,
-    head: u32,
-    v: u64,
-) -> Counts
-    requires { ⌜ Listed (now codes) (now valid) (now lists) (c .bodies) (c .heads) ⌝ ∗ ⌜ (c .bodies < 512) × (c .heads < 512) × Fitting (useOf family kind other head) ⌝ }
-    ensures { λ r. ⌜ UseAdded (useOf family kind other head) v (now (codes .entry)) (now (valid .entry)) (c .bodies) (c .heads) (now (codes .exit)) (now (valid .exit)) (now (lists .exit)) (r .bodies) (r .heads) ⌝ }
-{
-    let b = c.bodies;
-    let h = c.heads;
-    let body = body_at(
-        codes,
-        lists,
-        b,
-        family as usize,
-        family * 8192 + kind * 1024 + other,
-    );
-    let heads = add_head(codes, valid, lists, h, body, body as u32 * 1024 + head, v);
-    if body == b {
-        return Counts {
-            bodies: b + 1,
-            heads,
-        };
-    }
-    Counts { bodies: b, heads }
+    lists[2592 + h] = source;
+    lists[3105] = (h + 1) as u16;
 }

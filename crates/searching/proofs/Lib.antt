@@ -1,5 +1,6 @@
-pub mod Families
 pub mod Statements
-pub mod Reading
-pub mod Passing
-pub mod Closing
+pub mod Reasons
+pub mod Sources
+pub mod Reaching
+pub mod Counting
+pub mod Searches

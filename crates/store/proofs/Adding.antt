@@ -11,7 +11,7 @@ use lib.ListN.{length, getD, set, length-set}
 use lib.Seq.{getD-set-same, getD-set-other}
 use Rattle.meaning.specs.Table.{bit}
 use Rattle.meaning.proofs.Bits.{bit-below-two, bit-or, bit-of-zero, bit-ext}
-use Rattle.store.specs.Entries.{roleIn, Has, Chained, Stored, pushed, At, Added, Entered, made}
+use Rattle.store.specs.Entries.{roleIn, Has, Chained, Stored, pushed, At, Added}
 use Rattle.store.proofs.Chains.{last-or-below, equal-or-not, linked-push}
 use Rattle.store.proofs.Searches.{searchable-append}
 use Rattle.store.proofs.Stores.{grown-refl}
@@ -140,9 +140,6 @@ module _ (limit key : ℕ) (keys slots links : List ℕ) (n p : ℕ) (st : Store
         searchable = searchable-append keys slots n key p (st .searchable) klen plen a z;
         chained = subst⁻¹ (λ (k : ℕ). Chained (λ i. roleIn (getD (set keys n key) i 0)) 1024 k (λ r. getD (pushed links n (roleIn key)) (1024 + r) 0) (λ i. getD (pushed links n (roleIn key)) i 0)) (add-one n) (linked-push links n (roleIn key) len (omega arith) low (λ i. roleIn (getD (set keys n key) i 0)) (st .chained) (λ i l. ap roleIn (key-before i l)) (ap roleIn key-at));
       }
-
-  pub entered-by : (keys′ slots′ links′ : List ℕ) → keys′ ≡ set keys n key → slots′ ≡ set slots p (n + 1) → links′ ≡ pushed links n (roleIn key) → Entered limit key keys n keys′ slots′ links′ (n + 1)
-  entered-by keys′ slots′ links′ e f g = made h (a .absent z) e (rw (e, f, g) stored-new) refl
 
   -- with its spans
   module _ (m : ℕ) (spans : List ℕ) (len : length spans ≡ 1024) where

@@ -15,10 +15,3 @@ set-below key = omega arith
 
 pub key-of-parts : (key : ℕ) → keyOf (roleIn key) (setIn key) ≡ key
 key-of-parts key = omega arith
-
-pub key-injective : (Ar X Bs Y : ℕ) → X < 2 ^ 32 → Y < 2 ^ 32 → keyOf Ar X ≡ keyOf Bs Y → (Ar ≡ Bs) × (X ≡ Y)
-key-injective Ar X Bs Y h k e = omega arith
-
--- the key of a role below 1,024 and a set fits a word
-pub key-below : (Ar X : ℕ) → Ar < 1024 → X < 2 ^ 32 → keyOf Ar X < 2 ^ 64
-key-below Ar X h k = omega arith

@@ -3,3 +3,4 @@ pub mod Chains
 pub mod Searches
 pub mod Stores
 pub mod Adding
+pub mod Notes

@@ -23,11 +23,11 @@ module _ (keys slots : List ℕ) (key : ℕ) where
   meet {x = x} {r = r} (next i e ne h) (next j f nf k) s t =
       meet h (subst (λ (j : ℕ). Leads keys slots key (1024 + 2 * j + x % 2) (x / 2) r) (suc-inj (sym f ∙ e)) k) s t
 
-  -- the step from an entry as the code has it
-  pub onward : (p x q : ℕ) → (getD slots p 0 ≡ 0 → ⊥) → (getD keys (getD slots p 0 - 1) 0 ≡ key → ⊥) → Leads keys slots key (1022 + 2 * getD slots p 0 + x % 2) (x / 2) q → Leads keys slots key p x q
-  onward p x q nz ne h =
-      let e : 1022 + 2 * getD slots p 0 + x % 2 ≡ 1024 + 2 * (getD slots p 0 - 1) + x % 2 = omega arith in
-      next {p = p} (getD slots p 0 - 1) (omega arith) ne (subst (λ (y : ℕ). Leads keys slots key y (x / 2) q) e h)
+  -- the step from an entry as the code has it, which has read the slot's number w
+  pub onward : (p x q w : ℕ) → w ≡ getD slots p 0 → (w ≡ 0 → ⊥) → (getD keys (w - 1) 0 ≡ key → ⊥) → Leads keys slots key (1022 + 2 * w + x % 2) (x / 2) q → Leads keys slots key p x q
+  onward p x q w e nz ne h =
+      let f : 1022 + 2 * w + x % 2 ≡ 1024 + 2 * (w - 1) + x % 2 = omega arith in
+      next {p = p} (w - 1) (omega arith) ne (subst (λ (y : ℕ). Leads keys slots key y (x / 2) q) f h)
 
   -- a search keeps to the slots of entries
   pub below : (n : ℕ) {p x q : ℕ} → Searchable keys slots n → Leads keys slots key p x q → p < 1024 + 2 * n → q < 1024 + 2 * n
@@ -54,34 +54,35 @@ module _ (keys slots : List ℕ) (n : ℕ) (s : Searchable keys slots n) where
       (sym (r .2)
       ∙ stops-at (getD keys i 0) (r .0) j (r .1) (λ k f. let q : i ≡ k = suc-inj (sym (r .2) ∙ f) in ap (λ (x : ℕ). getD keys x 0) (sym q)) m (sym e))
 
-  -- a slot in use
-  pub slot-used : (p : ℕ) → (getD slots p 0 ≡ 0 → ⊥) → (getD slots p 0 ≤ n) × (p < 1022 + 2 * getD slots p 0)
-  slot-used p nz =
-      let e : getD slots p 0 ≡ suc (getD slots p 0 - 1) = omega arith in
-      let a = s .within p (getD slots p 0 - 1) e in
-      let b = s .later p (getD slots p 0 - 1) e in
-      (omega arith, omega arith)
+  -- a slot with the number w
+  module _ (p w : ℕ) (e : w ≡ getD slots p 0) where
+    pub slot-used : (w ≡ 0 → ⊥) → (w ≤ n) × (p < 1022 + 2 * w)
+    slot-used nz =
+        let f : getD slots p 0 ≡ suc (w - 1) = omega arith in
+        let a = s .within p (w - 1) f in
+        let b = s .later p (w - 1) f in
+        (omega arith, omega arith)
 
-  module _ (key p : ℕ) (few : n ≤ 1024) (low : p < 1024 + 2 * n) (h : Comes keys slots key p) where
-    pub at-empty : getD slots p 0 ≡ 0 → At keys slots n key p
-    at-empty z =
-        record {
-          comes = h;
-          within = omega arith;
-          absent = λ _ i l e. let r = stops-at key p i h (λ j f. absurd (omega arith)) l e in omega arith;
-          present = λ i e. absurd (omega arith);
-        }
+    module _ (key : ℕ) (few : n ≤ 1024) (low : p < 1024 + 2 * n) (h : Comes keys slots key p) where
+      pub at-empty : w ≡ 0 → At keys slots n key p
+      at-empty z =
+          record {
+            comes = h;
+            within = omega arith;
+            absent = λ _ i l f. let r = stops-at key p i h (λ j f. absurd (omega arith)) l f in omega arith;
+            present = λ i f. absurd (omega arith);
+          }
 
-    pub at-entry : (getD slots p 0 ≡ 0 → ⊥) → getD keys (getD slots p 0 - 1) 0 ≡ key → At keys slots n key p
-    at-entry nz e =
-        record {
-          comes = h;
-          within = omega arith;
-          absent = λ z. absurd (nz z);
-          present = λ i f.
-              let q : getD slots p 0 - 1 ≡ i = omega arith in
-              (s .within p i f, subst (λ (x : ℕ). getD keys x 0 ≡ key) q e);
-        }
+      pub at-entry : (w ≡ 0 → ⊥) → getD keys (w - 1) 0 ≡ key → At keys slots n key p
+      at-entry nz k =
+          record {
+            comes = h;
+            within = omega arith;
+            absent = λ z. absurd (nz (e ∙ z));
+            present = λ i f.
+                let q : w - 1 ≡ i = omega arith in
+                (s .within p i f, subst (λ (x : ℕ). getD keys x 0 ≡ key) q k);
+          }
 
 -- entry n is made, in the empty slot where the search for its key ended
 module _ (keys slots : List ℕ) (n key p : ℕ) (s : Searchable keys slots n) (kroom : n < length keys) (proom : p < length slots) (a : At keys slots n key p) (z : getD slots p 0 ≡ 0) where

@@ -73,6 +73,15 @@ pub record At (keys slots : List ℕ) (n key p : ℕ) : Type 0 where
   pub absent : getD slots p 0 ≡ 0 → (i : ℕ) → i < n → getD keys i 0 ≡ key → ⊥
   pub present : (i : ℕ) → getD slots p 0 ≡ suc i → (i < n) × (getD keys i 0 ≡ key)
 
+-- r is one more than the number of the entry with the key among the first n, or 0 where there is none
+pub record EntryOf (keys : List ℕ) (n key r : ℕ) : Type 0 where
+  pub absent : r ≡ 0 → (i : ℕ) → i < n → getD keys i 0 ≡ key → ⊥
+  pub present : (i : ℕ) → r ≡ suc i → (i < n) × (getD keys i 0 ≡ key)
+
+-- among the first n entries, one has the key, and its spans have all of m
+abbrev pub HasAll : List ℕ → List ℕ → ℕ → ℕ → ℕ → Type 0
+HasAll keys spans n key m = (i : ℕ) × (i < n) × (getD keys i 0 ≡ key) × ((s : ℕ) → bit m s ≡ 1 → bit (getD spans i 0) s ≡ 1)
+
 -- the first n entries keep their keys and all their spans
 pub record Grown (keys spans : List ℕ) (n : ℕ) (keys′ spans′ : List ℕ) (n′ : ℕ) : Type 0 where
   pub more : n ≤ n′
@@ -87,9 +96,3 @@ pub record Added (limit key m : ℕ) (keys spans : List ℕ) (n : ℕ) (keys′ 
   pub some : r ≤ limit → (i : ℕ) → i < r → getD spans′ i 0 ≡ 0 → (i < n) × (getD spans i 0 ≡ 0)
   pub over : limit < r → (n ≡ limit) × (m ≡ 0 → ⊥) × ((i : ℕ) → i < n → getD keys i 0 ≡ key → ⊥)
   pub room : length spans′ ≡ length spans
-
--- An entry has the key already; or one was made; or there was no room for it, and the answer is above the limit.
-pub data Entered (limit key : ℕ) (keys : List ℕ) (n : ℕ) (keys′ slots′ links′ : List ℕ) (r : ℕ) : Type 0 where
-  there : (i : ℕ) → i < n → getD keys i 0 ≡ key → keys′ ≡ keys → Stored keys′ slots′ links′ n → r ≡ n → Entered limit key keys n keys′ slots′ links′ r
-  made : n < limit → ((i : ℕ) → i < n → getD keys i 0 ≡ key → ⊥) → keys′ ≡ set keys n key → Stored keys′ slots′ links′ (n + 1) → r ≡ n + 1 → Entered limit key keys n keys′ slots′ links′ r
-  full : n ≡ limit → ((i : ℕ) → i < n → getD keys i 0 ≡ key → ⊥) → r ≡ limit + 1 → Entered limit key keys n keys′ slots′ links′ r

@@ -1,56 +1,45 @@
-// The store of completing: entries in the order in which they were found, looked up by key, and in lists by role.
+// The store of completing and querying: entries in the order in which they were found, looked up by key, in lists by role, each with a note of how it came about.
 ghost use mathlib.Core.Path.{_≡_};
-ghost use Prim.Native.Nat.{_+_, _<_, _≤_};
-ghost use lib.ListN.{length, set};
-ghost use Rattle.store.specs.Entries.{roleIn, mixed, pushed, Searchable, Stored, At, Added, Entered};
+ghost use mathlib.Core.Bool.{true};
+ghost use Prim.Native.Nat.{ℕ, _+_, _<_, _≤_, max};
+ghost use lib.ListN.{length, set, replicate};
+ghost use Rattle.store.specs.Entries.{keyOf, roleIn, setIn, mixed, pushed, Searchable, Stored, At, EntryOf, HasAll, Added};
+ghost use Rattle.store.specs.Notes.{noted, levelBy, Leveled};
 
-// The bits by which a key is looked for.
-fn mix(key: u64) -> u64
-    ensures { λ r. ⌜ r ≡ mixed key ⌝ }
-{
-    let x = key % 4294967296 * 2654435761 + key / 4294967296 % 1024 * 2246822519;
-    x / 4194304 + x % 4194304 * 4398046511104
-}
-
-// Where a search for a key ends: at the slot of its entry, or at an empty one.
-pub fn find(keys: &[u64], slots: &[u16], n: usize, key: u64) -> usize
+// One more than the number of the entry with the key, or 0.
+pub fn entry_of(keys: &[u64; 1024], slots: &[u16; 3072], n: usize, key: u64) -> usize
     requires { ⌜ Searchable (now keys) (now slots) n ⌝ ∗ ⌜ (length (now keys) ≡ 1024) × (length (now slots) ≡ 3072) × (n ≤ 1024) ⌝ }
-    ensures { λ p. ⌜ At (now (keys .entry)) (now (slots .entry)) n key p ⌝ }
+    ensures { λ r. ⌜ EntryOf (now (keys .entry)) n key r ⌝ }
 {
-    let mut x = mix(key);
-    let mut p = (x % 1024) as usize;
-    x = x / 1024;
-    loop {
-        let c = slots[p] as usize;
-        if c == 0 {
-            return p;
-        }
-        if keys[c - 1] == key {
-            return p;
-        }
-        p = 1022 + 2 * c + (x % 2) as usize;
-        x = x / 2;
-    }
+    let p = find(keys, slots, n, key);
+    wide(slots[p])
 }
 
-// Makes entry n, at the end of its role's list and with slot p.
-fn append(keys: &mut [u64], slots: &mut [u16], links: &mut [u16], n: usize, p: usize, key: u64)
-    requires { ⌜ (length (now keys) ≡ 1024) × (length (now slots) ≡ 3072) × (length (now links) ≡ 2048) ⌝ ∗ ⌜ (n < 1024) × (p < 3072) × (roleIn key < 1024) ⌝ }
-    ensures { λ _. ⌜ now (keys .exit) ≡ set (now (keys .entry)) n key ⌝ ∗ ⌜ now (slots .exit) ≡ set (now (slots .entry)) p (n + 1) ⌝ ∗ ⌜ now (links .exit) ≡ pushed (now (links .entry)) n (roleIn key) ⌝ }
+// Whether an entry is known to have the key in all spans of m.
+pub fn known(
+    keys: &[u64; 1024],
+    spans: &[u64; 1024],
+    slots: &[u16; 3072],
+    n: usize,
+    key: u64,
+    m: u64,
+) -> bool
+    requires { ⌜ Searchable (now keys) (now slots) n ⌝ ∗ ⌜ (length (now keys) ≡ 1024) × (length (now slots) ≡ 3072) × (n ≤ 1024) ⌝ }
+    ensures { λ r. ⌜ (r ≡ true → HasAll (now (keys .entry)) (now (spans .entry)) n key m) ⌝ }
 {
-    let r = 1024 + (key / 4294967296) as usize;
-    keys[n] = key;
-    slots[p] = (n + 1) as u16;
-    links[n] = links[r];
-    links[r] = (n + 1) as u16;
+    let c = entry_of(keys, slots, n, key);
+    if c == 0 {
+        return false;
+    }
+    spans[c - 1] & m == m
 }
 
 // Adds spans to the entry of a key. A new entry past the limit is not added, and the answer is above the limit.
 pub fn add(
-    keys: &mut [u64],
-    spans: &mut [u64],
-    slots: &mut [u16],
-    links: &mut [u16],
+    keys: &mut [u64; 1024],
+    spans: &mut [u64; 1024],
+    slots: &mut [u16; 3072],
+    links: &mut [u16; 2048],
     n: usize,
     limit: usize,
     key: u64,
@@ -63,7 +52,7 @@ pub fn add(
         return n;
     }
     let p = find(keys, slots, n, key);
-    let c = slots[p] as usize;
+    let c = wide(slots[p]);
     if c != 0 {
         spans[c - 1] = spans[c - 1] | m;
         return n;
@@ -76,25 +65,136 @@ pub fn add(
     n + 1
 }
 
-// Makes an entry of a key that has none. Past the limit it is not made, and the answer is above the limit.
-pub fn enter(
-    keys: &mut [u64],
-    slots: &mut [u16],
-    links: &mut [u16],
-    n: usize,
-    limit: usize,
-    key: u64,
-) -> usize
-    requires { ⌜ Stored (now keys) (now slots) (now links) n ⌝ ∗ ⌜ (n ≤ limit) × (limit ≤ 1024) × (roleIn key < 1024) ⌝ }
-    ensures { λ r. ⌜ Entered limit key (now (keys .entry)) n (now (keys .exit)) (now (slots .exit)) (now (links .exit)) r ⌝ }
+// Notes how entry n came about.
+pub fn note(notes: &mut [u16; 4096], n: usize, at: u16, first: u16, second: u16)
+    requires { ⌜ (length (now notes) ≡ 4096) × (n < 1024) × (first ≤ n) × (second ≤ n) ⌝ ∗ ⌜ ((i : ℕ) → i < n → Leveled (now notes) i) ⌝ }
+    ensures { λ _. ⌜ now (notes .exit) ≡ noted (now (notes .entry)) n at first second ⌝ }
 {
-    let p = find(keys, slots, n, key);
-    if slots[p] != 0 {
-        return n;
+    let level = larger(level_by(notes, first), level_by(notes, second)) + 1;
+    notes[4 * n] = at;
+    notes[4 * n + 1] = first;
+    notes[4 * n + 2] = second;
+    notes[4 * n + 3] = level;
+}
+
+// The key of a role with a set.
+pub fn key_of(role: usize, set: u64) -> u64
+    requires { ⌜ (role < 1024) × (set < 4294967296) ⌝ }
+    ensures { λ r. ⌜ r ≡ keyOf role set ⌝ }
+{
+    role as u64 * 4294967296 + set
+}
+
+// A key's role.
+pub fn role_of(key: u64) -> usize
+    ensures { λ r. ⌜ r ≡ roleIn key ⌝ }
+{
+    (key / 4294967296) as usize
+}
+
+// A key's set.
+pub fn set_of(key: u64) -> u64
+    ensures { λ r. ⌜ (r ≡ setIn key) × (r < 4294967296) ⌝ }
+{
+    key % 4294967296
+}
+
+// A number of a list as a place.
+pub fn wide(x: u16) -> usize
+    ensures { λ r. ⌜ (r ≡ x) × (x < 65536) ⌝ }
+{
+    x as usize
+}
+
+// Room for keys or spans, for slots, for links and for notes.
+pub fn room_for_keys() -> [u64; 1024]
+    ensures { λ r. ⌜ r ≡ replicate 1024 0 ⌝ }
+{
+    [0; 1024]
+}
+
+pub fn room_for_slots() -> [u16; 3072]
+    ensures { λ r. ⌜ r ≡ replicate 3072 0 ⌝ }
+{
+    [0; 3072]
+}
+
+pub fn room_for_links() -> [u16; 2048]
+    ensures { λ r. ⌜ r ≡ replicate 2048 0 ⌝ }
+{
+    [0; 2048]
+}
+
+pub fn room_for_notes() -> [u16; 4096]
+    ensures { λ r. ⌜ r ≡ replicate 4096 0 ⌝ }
+{
+    [0; 4096]
+}
+
+// The bits by which a key is looked for.
+fn mix(key: u64) -> u64
+    ensures { λ r. ⌜ r ≡ mixed key ⌝ }
+{
+    let x = key % 4294967296 * 2654435761 + key / 4294967296 % 1024 * 2246822519;
+    x / 4194304 + x % 4194304 * 4398046511104
+}
+
+// Where a search for a key ends: at the slot of its entry, or at an empty one.
+fn find(keys: &[u64; 1024], slots: &[u16; 3072], n: usize, key: u64) -> usize
+    requires { ⌜ Searchable (now keys) (now slots) n ⌝ ∗ ⌜ (length (now keys) ≡ 1024) × (length (now slots) ≡ 3072) × (n ≤ 1024) ⌝ }
+    ensures { λ p. ⌜ At (now (keys .entry)) (now (slots .entry)) n key p ⌝ }
+{
+    let mut x = mix(key);
+    let mut p = (x % 1024) as usize;
+    x = x / 1024;
+    loop {
+        let c = wide(slots[p]);
+        if c == 0 {
+            return p;
+        }
+        if keys[c - 1] == key {
+            return p;
+        }
+        p = 1022 + 2 * c + (x % 2) as usize;
+        x = x / 2;
     }
-    if n < limit {
-        append(keys, slots, links, n, p, key);
-        return n + 1;
+}
+
+// Makes entry n, the latest of its role, with slot p.
+fn append(
+    keys: &mut [u64; 1024],
+    slots: &mut [u16; 3072],
+    links: &mut [u16; 2048],
+    n: usize,
+    p: usize,
+    key: u64,
+)
+    requires { ⌜ (length (now keys) ≡ 1024) × (length (now slots) ≡ 3072) × (length (now links) ≡ 2048) ⌝ ∗ ⌜ (n < 1024) × (p < 3072) × (roleIn key < 1024) ⌝ }
+    ensures { λ _. ⌜ now (keys .exit) ≡ set (now (keys .entry)) n key ⌝ ∗ ⌜ now (slots .exit) ≡ set (now (slots .entry)) p (n + 1) ⌝ ∗ ⌜ now (links .exit) ≡ pushed (now (links .entry)) n (roleIn key) ⌝ }
+{
+    let r = 1024 + role_of(key);
+    keys[n] = key;
+    slots[p] = (n + 1) as u16;
+    links[n] = links[r];
+    links[r] = (n + 1) as u16;
+}
+
+// The level of the entry that a word cites, 0 where it cites none.
+fn level_by(notes: &[u16; 4096], w: u16) -> u16
+    requires { ⌜ (length (now notes) ≡ 4096) × (w ≤ 1024) ⌝ }
+    ensures { λ r. ⌜ r ≡ levelBy (now (notes .entry)) w ⌝ }
+{
+    if w == 0 {
+        return 0;
     }
-    limit + 1
+    notes[4 * wide(w) - 1]
+}
+
+fn larger(a: u16, b: u16) -> u16
+    ensures { λ r. ⌜ r ≡ max a b ⌝ }
+{
+    if a < b {
+        return b;
+    }
+    a
 }

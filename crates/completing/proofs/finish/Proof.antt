@@ -1,57 +1,42 @@
-use mathlib.Core.Path.{_∙_}
 -- `completing::finish` meets its contract.
+use mathlib.Core.Path.{_∙_}
 use Rattle.completing.specs.Completing.{lent}
 use Rattle.completing.proofs.Replies.{over-ending, table-ending}
 use borrow.Author.Needs.{needs}
 use Rattle.completing.proofs.finish.Statement.{statement}
 use Rattle.completing.proofs.finish.Tie as tie
-use Rattle.completing.proofs.finish.Reads as reads
-use Rattle.completing.proofs.finish.Lts as lts
-use Rattle.completing.proofs.clear.Reads as clear-reads
-use Rattle.completing.proofs.run.Reads as run-reads
 
--- src/lib.rt:213:9
 run-requires : tie.Need-run-requires
 run-requires c κs = search needs
 
--- src/lib.rt:216:9
 clear-requires : tie.Need-clear-requires
 clear-requires c κs = search needs
 
--- src/lib.rt:217:9
 same-length : tie.Need-same-length
 same-length c = c .before .before .before .before .before .before .clear .kept .0 ∙ c .before .before .before .before .before .before .before .before .before .before .before .before .before .before .before .before .before .run .kept .0
 
--- src/lib.rt:217:9
 same-length-2 : tie.Need-same-length-2
 same-length-2 c = c .before .before .before .before .before .before .clear .kept .1 .0 ∙ c .before .before .before .before .before .before .before .before .before .before .before .before .before .before .before .before .before .run .kept .1 .0
 
--- src/lib.rt:217:9
 same-length-3 : tie.Need-same-length-3
 same-length-3 c = c .before .before .before .before .before .before .clear .kept .1 .1 .0 ∙ c .before .before .before .before .before .before .before .before .before .before .before .before .before .before .before .before .before .run .kept .1 .1 .0
 
--- src/lib.rt:217:9
 returns : tie.Need-returns
 returns c = let a = c .before .before .before .before .before .before .before .before .before .before .before .before .before .before .before .before .before .before .before .before .before .before .before .before .args in let k = c .before .before .before .before .before .before .before .before .before .before .before .before .before .before .before .before .before .run .kept in
     over-ending _ (lent (a .roles .now) (a .sets .now) (a .spans .now)) (c .before .before .before .before .before .before .before .before .before .before .before .before .before .before .before .before .before .run .ensures) (k .0) (c .before .before .before .before .before .before .before .before .before .before .if1 .taken) (k .1 .0) (k .1 .1 .0) (c .before .before .before .before .before .before .clear .ensures .0) (c .before .before .before .before .before .before .clear .ensures .1 .0) (c .before .before .before .before .before .before .clear .ensures .1 .1)
 
--- src/lib.rt:222:28
 cast-t24 : tie.Need-cast-t24
 cast-t24 c = search needs
 
--- src/lib.rt:201:1
 same-length-4 : tie.Need-same-length-4
 same-length-4 c = c .before .before .before .before .before .before .before .run .kept .0
 
--- src/lib.rt:201:1
 same-length-5 : tie.Need-same-length-5
 same-length-5 c = c .before .before .before .before .before .before .before .run .kept .1 .0
 
--- src/lib.rt:201:1
 same-length-6 : tie.Need-same-length-6
 same-length-6 c = c .before .before .before .before .before .before .before .run .kept .1 .1 .0
 
--- src/lib.rt:201:1
 returns-2 : tie.Need-returns-2
 returns-2 c = let a = c .before .before .before .before .before .before .before .before .before .before .before .before .before .before .args in table-ending _ (lent (a .roles .now) (a .sets .now) (a .spans .now)) (c .before .before .before .before .before .before .before .run .ensures) (c .before .before .before .before .before .before .before .run .kept .0) (c .if1 .left)
 

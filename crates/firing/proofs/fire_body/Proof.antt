@@ -1,41 +1,86 @@
--- `firing::fire_body` leaves out the spans in which the body is not valid; there it gives nothing.
+-- `firing::fire_body` adds to the heads of a body what its move gives, in the spans in which some head of it is valid.
+use mathlib.Core.Bool.{true, false}
 use native.Mathlib.Omega.{arith}
 use borrow.Author.Needs.{needs}
+use lib.ListN.{getD}
+use Rattle.heads.specs.Heads.{Covering}
 use Rattle.heads.proofs.Gaining.{gains-none}
-use Rattle.firing.proofs.Firings.{narrow-none, narrow-same}
+use Rattle.firing.proofs.Moving.{narrow-none, move-none, move-gains, each-gains}
 use Rattle.firing.proofs.fire_body.Statement.{statement}
 use Rattle.firing.proofs.fire_body.Tie as tie
 
+abbrev spanned : tie.After-plan → tie.After-body-spans
+spanned t = t .before .before .before .before .before .before .before
+
+cover : (b : tie.After-body-spans) → let a = b .before .args in Covering (a .codes .now) (a .valid .now) (a .lists .now) (a .body) (b .body-spans .result)
+cover b = b .body-spans .ensures (b .before .args .codes .now) (b .before .pre .0 .listed)
+
 body-spans-requires : tie.Need-body-spans-requires
-body-spans-requires c κs = let s = c .before .before .before .before .before .before .before .before in let p = s .pre .0 in ((s .args .codes .now, p .listed), omega (arith, p .low, p .listed .few))
+body-spans-requires c κs = let p = c .pre .0 in ((c .args .codes .now, p .listed), omega (arith, p .low, p .listed .few))
 
 returns : tie.Need-returns
-returns c = let s = c .before .before .before .before .before .before .before .before .before .before in
+returns c = let b = c .before .before in
+    let s = b .before in
     let a = s .args in
-    let p = s .pre .0 in
-    gains-none (p .kept) (p .few .0)
-    (narrow-none (a .codes .now) (a .valid .now) (a .h) (a .keys .now) (a .done .now) (a .n) (a .e) (a .d) (a .body) (c .before .body-spans .result) (c .before .body-spans .ensures (a .codes .now) (p .listed)) (c .if1 .taken))
+    gains-none (s .pre .0 .kept) (s .pre .0 .few .0)
+    (narrow-none (a .codes .now) (a .valid .now) (a .lists .now) (a .body) (b .body-spans .result) (cover b) (a .keys .now) (a .done .now) (a .n) (a .t .e) (a .t .spans) (getD (a .codes .now) (a .body) 0) (c .if1 .taken))
 
-by-kind-requires : tie.Need-by-kind-requires
-by-kind-requires c κs = c .before .before .before .before .before .before .before .before .before .before .before .before .before .before .pre
+mul-plan : tie.Need-mul-plan
+mul-plan c = let p = c .before .before .before .before .before .before .pre .0 in omega (arith, p .low, p .listed .few)
 
-same-length : tie.Need-same-length
-same-length c = c .before .before .before .before .before .before .before .before .by-kind .kept .0
+element-copy-out-plan : tie.Need-element-copy-out-plan
+element-copy-out-plan c = let p = c .before .before .before .before .before .before .pre .0 in omega (arith, p .low, p .listed .few)
 
-same-length-2 : tie.Need-same-length-2
-same-length-2 c = c .before .before .before .before .before .before .before .before .by-kind .kept .1 .0
-
-same-length-3 : tie.Need-same-length-3
-same-length-3 c = c .before .before .before .before .before .before .before .before .by-kind .kept .1 .1 .0
-
-same-length-4 : tie.Need-same-length-4
-same-length-4 c = c .before .before .before .before .before .before .before .before .by-kind .kept .1 .1 .1 .0
+plan-requires : tie.Need-plan-requires
+plan-requires c κs =
+    let s = c .before .before .before .before .before .before .before in
+    let p = s .pre in
+    let i = s .args .body in
+    let f = p .1 .1 .1 in
+    (p .0 .kept .stored, (p .1 .0, record { family = p .1 .1 .0; kind = f .kinds i (p .0 .low); named = f .named i (p .0 .low); name = f .names i (p .0 .low) }))
 
 returns-2 : tie.Need-returns-2
-returns-2 c = let s = c .before .before .before .before .before .before .before .before .before .before .before .before .before .before .before .before .before .before .before .before .before .before .before in
+returns-2 c = let t = c .before .before .before in
+    let b = spanned t in
+    let s = b .before in
     let a = s .args in
-    let w = c .before .before .before .before .before .before .before .before .before .before .before .before .before .before .body-spans in
-    narrow-same (a .codes .now) (a .valid .now) (a .h) (a .keys .now) (a .done .now) (a .n) (a .e) (a .d) (a .body) (w .result) (w .ensures (a .codes .now) (s .pre .0 .listed)) (c .before .before .before .before .before .before .before .before .by-kind .ensures)
+    gains-none (s .pre .0 .kept) (s .pre .0 .few .0)
+    (move-none (a .codes .now) (a .valid .now) (a .lists .now) (a .body) (b .body-spans .result) (cover b) (a .keys .now) (a .done .now) (a .n) (a .t .e) (a .t .spans) (getD (a .codes .now) (a .body) 0) (t .plan .ensures) (c .if2 .taken))
+
+add-own : tie.Need-add-own
+add-own c = search needs
+
+cast-own : tie.Need-cast-own
+cast-own c = let p = c .before .before .before .before .before .before .before .before .before .before .before .before .pre in omega (arith, p .1 .0 .low, p .0 .few)
+
+with-each-requires : tie.Need-with-each-requires
+with-each-requires c κs =
+    let t = c .before .before .before .before .before .before .before .before .before .before in
+    let p = spanned t .before .pre in
+    let l = t .plan .ensures .low in
+    (p .0, (l .2, l .0, omega (arith, p .1 .0 .low)))
+
+returns-3 : tie.Need-returns-3
+returns-3 c = let t = c .before .before .before .before .before .before .before .before .before .before .before in
+    let b = spanned t in
+    let a = b .before .args in
+    move-gains (a .codes .now) (a .valid .now) (a .lists .now) (a .body) (b .body-spans .result) (cover b) (a .keys .now) (a .done .now) (a .n) (a .t .e) (a .t .spans) (getD (a .codes .now) (a .body) 0) (t .plan .ensures) true
+    (c .before .before .before .before .before .before .if3 .taken) (c .before .before .before .before .before .before .before .before .if2 .left)
+    (each-gains (a .codes .now) (a .valid .now) (a .lists .now) (a .body) (a .keys .now) (a .done .now) (t .plan .result) (c .with-each .ensures))
+
+add-heads-requires : tie.Need-add-heads-requires
+add-heads-requires c κs =
+    let t = c .before .before .before .before .before .before .before .before .before .before in
+    let p = spanned t .before .pre in
+    let l = t .plan .ensures .low in
+    (p .0, (l .0, omega (arith, p .1 .0 .low), l .1))
+
+returns-4 : tie.Need-returns-4
+returns-4 c = let t = c .before .before .before .before .before .before .before .before .before .before .before in
+    let b = spanned t in
+    let a = b .before .args in
+    move-gains (a .codes .now) (a .valid .now) (a .lists .now) (a .body) (b .body-spans .result) (cover b) (a .keys .now) (a .done .now) (a .n) (a .t .e) (a .t .spans) (getD (a .codes .now) (a .body) 0) (t .plan .ensures) false
+    (c .before .before .before .before .before .before .if3 .left) (c .before .before .before .before .before .before .before .before .if2 .left) (c .add-heads .ensures)
 
 pub fire-body-spec : {M : Type 1} → statement M
 fire-body-spec =
@@ -43,9 +88,13 @@ fire-body-spec =
     (tie.spec
     body-spans-requires
     returns
-    by-kind-requires
-    same-length
-    same-length-2
-    same-length-3
-    same-length-4
-    returns-2)
+    mul-plan
+    element-copy-out-plan
+    plan-requires
+    returns-2
+    add-own
+    cast-own
+    with-each-requires
+    returns-3
+    add-heads-requires
+    returns-4)

@@ -14,8 +14,8 @@ spans-between-requires : tie.Need-spans-between-requires
 spans-between-requires c κs = search needs
 
 returns : tie.Need-returns
-returns c = let a = c .before .before .before .before .args in
-    masked (c .before .before .before .before .pre) (a .from) (a .until) (c .before .before .first-at .result) (c .before .first-at2 .result) (c .spans-between .result) (c .before .before .first-at .ensures) (c .before .first-at2 .ensures) (c .spans-between .ensures)
+returns c = let s = c .before .before .before .before .before in
+    masked (s .pre) record { from = s .args .from; until = s .args .until } (c .before .before .before .first-at .result) (c .before .first-at2 .result) (c .spans-between .result) (c .before .before .before .first-at .ensures) (c .before .first-at2 .ensures) (c .spans-between .ensures)
 
 pub span-mask-spec : {M : Type 1} → statement M
 span-mask-spec = tie.close (tie.spec first-at-requires first-at-requires-2 spans-between-requires returns)

@@ -1,85 +1,90 @@
 -- `pairs::add_waiting` adds what the heads of a body give from the sets that wait, one after the other.
-use mathlib.Core.Path.{_∙_}
-use Prim.Native.Nat.{_-_, _≤_, zero-le}
+use Prim.Native.Nat.{_-_, _≤_, _<_, zero-le}
 use native.Mathlib.Omega.{arith}
-use Rattle.store.specs.Entries.{Has}
 use Rattle.heads.specs.Gaining.{Gains}
-use Rattle.heads.specs.Heads.{Headed}
-use Rattle.heads.proofs.Gaining.{alike}
+use Rattle.heads.specs.Heads.{Headed, FromHeads}
+use Rattle.waiting.specs.Waiting.{Waits, Partnered}
 use Rattle.pairs.proofs.Adding.{added-start, added-next, added-over, added-end}
 use Rattle.pairs.proofs.add_waiting.Statement.{statement}
 use Rattle.pairs.proofs.add_waiting.Tie as tie
 
 abbrev Inv-loop : tie.InvT-loop
-Inv-loop keys₀ spans₀ slots₀ links₀ codes valid lists b h n limit body sets masks count r₀ i₀ keys spans slots links r i = (r ≤ limit) × (i ≤ count) × Gains limit keys₀ spans₀ n (Headed codes valid h body (Has sets masks i)) keys spans slots links r
+Inv-loop keys₀ spans₀ slots₀ links₀ notes₀ codes valid lists places n p count limit r₀ i₀ keys spans slots links notes r i =
+    (r ≤ limit) × (i ≤ count) × Gains limit keys₀ spans₀ notes₀ n (Headed codes valid lists (p .body) (Waits places i)) (FromHeads codes lists (p .body) (p .own) (Partnered places count)) keys spans slots links notes r
 
 abbrev μ-loop : tie.MeasureT-loop
-μ-loop keys₀ spans₀ slots₀ links₀ codes valid lists b h n limit body sets masks count r₀ i₀ keys spans slots links r i = count - i
+μ-loop keys₀ spans₀ slots₀ links₀ notes₀ codes valid lists places n p count limit r₀ i₀ keys spans slots links notes r i = count - i
+
+-- the loop and the function's entry, from the partner's word
+abbrev looped : tie.After-role-of Inv-loop μ-loop → tie.At-loop Inv-loop μ-loop
+looped w = w .before .before .before .before .before
+
+abbrev start : tie.After-role-of Inv-loop μ-loop → tie.Start Inv-loop μ-loop
+start w = looped w .before
+
+-- a place below the count
+abbrev placed : (w : tie.After-role-of Inv-loop μ-loop) → looped w .loop .i < start w .args .count
+placed w = w .before .before .before .before .loop-test .taken
 
 loop-holds : tie.Need-loop-holds Inv-loop μ-loop
-loop-holds c = (c .before .before .before .before .before .before .before .before .before .pre .0 .few .0, zero-le, added-start (c .before .before .before .before .before .before .before .before .before .args .sets .now) (c .before .before .before .before .before .before .before .before .before .args .masks .now) (c .before .before .before .before .before .before .before .before .before .pre .0 .kept) (c .before .before .before .before .before .before .before .before .before .pre .0 .few .0))
+loop-holds c = (c .pre .0 .few .0, zero-le, added-start (c .args .places .now) (c .pre .0 .kept) (c .pre .0 .few .0))
 
-mul-add-heads : tie.Need-mul-add-heads Inv-loop μ-loop
-mul-add-heads c = omega (arith, c .before .before .before .before .loop-test .taken, c .before .before .before .before .before .before .before .before .before .before .before .before .before .before .before .pre .1 .few)
+mul-x : tie.Need-mul-x Inv-loop μ-loop
+mul-x c = omega (arith, c .loop-test .taken, c .before .before .pre .1 .0)
 
-shared-slice-read-add-heads : tie.Need-shared-slice-read-add-heads Inv-loop μ-loop
-shared-slice-read-add-heads c = omega (arith, c .before .before .before .before .before .loop-test .taken, c .before .before .before .before .before .before .before .before .before .before .before .before .before .before .before .before .pre .1 .few, c .before .before .before .before .before .before .before .before .before .before .before .before .before .before .before .before .pre .1 .room)
+element-copy-out-x : tie.Need-element-copy-out-x Inv-loop μ-loop
+element-copy-out-x c = omega (arith, c .loop-test .taken, c .before .before .pre .1 .0)
 
-mul-add-heads-2 : tie.Need-mul-add-heads-2 Inv-loop μ-loop
-mul-add-heads-2 c = omega (arith, c .before .before .before .before .before .loop-test .taken, c .before .before .before .before .before .before .before .before .before .before .before .before .before .before .before .before .pre .1 .few)
+set-of-requires : tie.Need-set-of-requires Inv-loop μ-loop
+set-of-requires c κs = tt
 
-shared-slice-read-add-heads-2 : tie.Need-shared-slice-read-add-heads-2 Inv-loop μ-loop
-shared-slice-read-add-heads-2 c = omega (arith, c .before .before .before .before .before .before .loop-test .taken, c .before .before .before .before .before .before .before .before .before .before .before .before .before .before .before .before .before .pre .1 .few, c .before .before .before .before .before .before .before .before .before .before .before .before .before .before .before .before .before .pre .1 .room)
+add-t19 : tie.Need-add-t19 Inv-loop μ-loop
+add-t19 c = omega (arith, c .before .before .loop-test .taken, c .before .before .before .before .pre .1 .0)
+
+mul-t23 : tie.Need-mul-t23 Inv-loop μ-loop
+mul-t23 c = omega (arith, c .before .before .loop-test .taken, c .before .before .before .before .pre .1 .0)
+
+element-copy-out-t26 : tie.Need-element-copy-out-t26 Inv-loop μ-loop
+element-copy-out-t26 c = omega (arith, c .before .before .loop-test .taken, c .before .before .before .before .pre .1 .0)
+
+role-of-requires : tie.Need-role-of-requires Inv-loop μ-loop
+role-of-requires c κs = tt
+
+cast-t28 : tie.Need-cast-t28 Inv-loop μ-loop
+cast-t28 c = omega (arith, c .role-of .ensures, start c .pre .1 .1 (looped c .loop .i) (placed c), start c .pre .0 .few)
 
 add-heads-requires : tie.Need-add-heads-requires Inv-loop μ-loop
-add-heads-requires c κs = let v = c .before .before .before .before .before .before .before .loop .inv in
-    let p = c .before .before .before .before .before .before .before .before .before .before .before .before .before .before .before .before .before .pre in
-    (record { kept = v .2 .kept (v .0); few = (v .0, p .0 .few .1); listed = p .0 .listed; low = p .0 .low }, p .1 .low (c .before .before .before .before .before .before .before .loop .i) (c .before .before .before .before .before .before .loop-test .taken))
-
-same-length : tie.Need-same-length Inv-loop μ-loop
-same-length c = c .before .before .before .before .before .before .before .before .before .add-heads .kept .0 ∙ alike (c .before .before .before .before .before .before .before .before .before .before .before .before .before .before .before .before .before .before .before .before .before .before .before .before .before .before .before .pre .0 .kept) (c .before .before .before .before .before .before .before .before .before .before .before .before .before .before .before .before .before .loop .inv .2 .kept (c .before .before .before .before .before .before .before .before .before .before .before .before .before .before .before .before .before .loop .inv .0)) .0
-
-same-length-2 : tie.Need-same-length-2 Inv-loop μ-loop
-same-length-2 c = c .before .before .before .before .before .before .before .before .before .add-heads .kept .1 .0 ∙ alike (c .before .before .before .before .before .before .before .before .before .before .before .before .before .before .before .before .before .before .before .before .before .before .before .before .before .before .before .pre .0 .kept) (c .before .before .before .before .before .before .before .before .before .before .before .before .before .before .before .before .before .loop .inv .2 .kept (c .before .before .before .before .before .before .before .before .before .before .before .before .before .before .before .before .before .loop .inv .0)) .1
-
-same-length-3 : tie.Need-same-length-3 Inv-loop μ-loop
-same-length-3 c = c .before .before .before .before .before .before .before .before .before .add-heads .kept .1 .1 .0 ∙ alike (c .before .before .before .before .before .before .before .before .before .before .before .before .before .before .before .before .before .before .before .before .before .before .before .before .before .before .before .pre .0 .kept) (c .before .before .before .before .before .before .before .before .before .before .before .before .before .before .before .before .before .loop .inv .2 .kept (c .before .before .before .before .before .before .before .before .before .before .before .before .before .before .before .before .before .loop .inv .0)) .2
-
-same-length-4 : tie.Need-same-length-4 Inv-loop μ-loop
-same-length-4 c = c .before .before .before .before .before .before .before .before .before .add-heads .kept .1 .1 .1 .0 ∙ alike (c .before .before .before .before .before .before .before .before .before .before .before .before .before .before .before .before .before .before .before .before .before .before .before .before .before .before .before .pre .0 .kept) (c .before .before .before .before .before .before .before .before .before .before .before .before .before .before .before .before .before .loop .inv .2 .kept (c .before .before .before .before .before .before .before .before .before .before .before .before .before .before .before .before .before .loop .inv .0)) .3
+add-heads-requires c κs =
+    let w = c .before .before .before .before .before in
+    let p = start w .pre in
+    let v = looped w .loop .inv in
+    let m = v .2 .grown (v .0) .more in
+    (record { kept = v .2 .kept (v .0); few = (v .0, p .0 .few .1); listed = p .0 .listed; low = p .0 .low }, (w .before .before .set-of .ensures .1, omega (arith, p .1 .0), omega (arith, w .role-of .ensures, p .1 .1 (looped w .loop .i) (placed w))))
 
 returns : tie.Need-returns Inv-loop μ-loop
-returns c = let a = c .before .before .before .before .before .before .before .before .before .before .before .before .before .before .before .before .before .before .before .before .before .before .before .before .before .before .before .args in
-    let v = c .before .before .before .before .before .before .before .before .before .before .before .before .before .before .before .before .before .loop in
-    added-over (a .sets .now) (a .masks .now) (v .i) (v .inv .2) (v .inv .0) (c .before .before .before .before .before .before .before .before .before .add-heads .ensures) (a .count) (c .before .before .before .before .before .before .before .before .before .before .before .before .before .before .before .before .loop-test .taken) (c .if1 .taken)
+returns c =
+    let w = c .before .before .before .before .before .before .before in
+    let a = start w .args in
+    let l = looped w .loop in
+    added-over (a .places .now) (l .i) (placed w) (w .before .before .set-of .ensures .0) (w .role-of .ensures) (l .inv .2) (l .inv .0) (c .before .add-heads .ensures) (c .if1 .taken)
 
 add-i : tie.Need-add-i Inv-loop μ-loop
-add-i c = omega (arith, c .before .before .before .before .before .before .before .before .before .before .before .before .before .before .before .before .loop-test .taken, c .before .before .before .before .before .before .before .before .before .before .before .before .before .before .before .before .before .before .before .before .before .before .before .before .before .before .before .pre .1 .few)
+add-i c = omega (arith, placed (c .before .before .before .before .before .before .before), start (c .before .before .before .before .before .before .before) .pre .1 .0)
 
 loop-less : tie.Need-loop-less Inv-loop μ-loop
-loop-less c = omega (arith, c .before .before .before .before .before .before .before .before .before .before .before .before .before .before .before .before .loop-test .taken)
+loop-less c = omega (arith, placed (c .before .before .before .before .before .before .before))
 
 loop-again : tie.Need-loop-again Inv-loop μ-loop
-loop-again c = let a = c .before .before .before .before .before .before .before .before .before .before .before .before .before .before .before .before .before .before .before .before .before .before .before .before .before .before .before .args in
-    let v = c .before .before .before .before .before .before .before .before .before .before .before .before .before .before .before .before .before .loop in
-    (c .if1 .left, omega (arith, c .before .before .before .before .before .before .before .before .before .before .before .before .before .before .before .before .loop-test .taken), added-next (a .sets .now) (a .masks .now) (v .i) (v .inv .2) (v .inv .0) (c .before .before .before .before .before .before .before .before .before .add-heads .ensures))
-
-same-length-5 : tie.Need-same-length-5 Inv-loop μ-loop
-same-length-5 c = alike (c .before .before .before .before .before .before .before .before .before .before .before .pre .0 .kept) (c .before .loop .inv .2 .kept (c .before .loop .inv .0)) .0
-
-same-length-6 : tie.Need-same-length-6 Inv-loop μ-loop
-same-length-6 c = alike (c .before .before .before .before .before .before .before .before .before .before .before .pre .0 .kept) (c .before .loop .inv .2 .kept (c .before .loop .inv .0)) .1
-
-same-length-7 : tie.Need-same-length-7 Inv-loop μ-loop
-same-length-7 c = alike (c .before .before .before .before .before .before .before .before .before .before .before .pre .0 .kept) (c .before .loop .inv .2 .kept (c .before .loop .inv .0)) .2
-
-same-length-8 : tie.Need-same-length-8 Inv-loop μ-loop
-same-length-8 c = alike (c .before .before .before .before .before .before .before .before .before .before .before .pre .0 .kept) (c .before .loop .inv .2 .kept (c .before .loop .inv .0)) .3
+loop-again c =
+    let w = c .before .before .before .before .before .before .before in
+    let a = start w .args in
+    let l = looped w .loop in
+    (c .if1 .left, omega (arith, placed w), added-next (a .places .now) (l .i) (placed w) (w .before .before .set-of .ensures .0) (w .role-of .ensures) (l .inv .2) (l .inv .0) (c .before .add-heads .ensures))
 
 returns-2 : tie.Need-returns-2 Inv-loop μ-loop
-returns-2 c = let a = c .before .before .before .before .before .before .before .before .before .before .before .args in
-    let v = c .before .loop in
-    added-end (a .sets .now) (a .masks .now) (v .i) (a .count) (v .inv .1) (c .loop-test .left) (v .inv .2)
+returns-2 c =
+    let l = c .before .loop in
+    added-end (c .before .before .args .places .now) (l .i) (c .before .before .args .count) (l .inv .1) (c .loop-test .left) (l .inv .2)
 
 pub add-waiting-spec : {M : Type 1} → statement M
 add-waiting-spec =
@@ -88,21 +93,17 @@ add-waiting-spec =
     Inv-loop
     μ-loop
     loop-holds
-    mul-add-heads
-    shared-slice-read-add-heads
-    mul-add-heads-2
-    shared-slice-read-add-heads-2
+    mul-x
+    element-copy-out-x
+    set-of-requires
+    add-t19
+    mul-t23
+    element-copy-out-t26
+    role-of-requires
+    cast-t28
     add-heads-requires
-    same-length
-    same-length-2
-    same-length-3
-    same-length-4
     returns
     add-i
     loop-less
     loop-again
-    same-length-5
-    same-length-6
-    same-length-7
-    same-length-8
     returns-2)

@@ -1,87 +1,57 @@
--- `pairs::with_each` goes pair by pair, or lends places to `with_room`.
+-- `pairs::with_each` goes by whether the body has no head, one head or several.
 use native.Mathlib.Omega.{arith}
-use Rattle.pairs.proofs.Roles.{head-low}
-use borrow.Author.Needs.{needs}
+use Rattle.heads.proofs.Gaining.{gains-none}
+use Rattle.pairs.proofs.Lists.{no-head, head-low, only-head}
 use Rattle.pairs.proofs.with_each.Statement.{statement}
 use Rattle.pairs.proofs.with_each.Tie as tie
 
-one-head-requires : tie.Need-one-head-requires
-one-head-requires c κs = let r = c .before .before .before .before .before .before .before .before .pre .0 in (r .listed .room .2, omega (arith, r .low, r .listed .few), head-low (r .listed) (c .before .before .before .before .before .before .before .before .args .body) (r .low))
-
-add-each-requires : tie.Need-add-each-requires
-add-each-requires c κs = (c .before .before .before .before .before .before .before .before .before .before .before .before .before .before .pre .0, c .before .before .before .before .before .before .before .before .before .before .before .before .before .before .pre .1)
-
-same-length : tie.Need-same-length
-same-length c = c .before .before .before .before .before .before .before .before .add-each .kept .0
-
-same-length-2 : tie.Need-same-length-2
-same-length-2 c = c .before .before .before .before .before .before .before .before .add-each .kept .1 .0
-
-same-length-3 : tie.Need-same-length-3
-same-length-3 c = c .before .before .before .before .before .before .before .before .add-each .kept .1 .1 .0
-
-same-length-4 : tie.Need-same-length-4
-same-length-4 c = c .before .before .before .before .before .before .before .before .add-each .kept .1 .1 .1 .0
+first-head-requires : tie.Need-first-head-requires
+first-head-requires c κs = omega (arith, c .pre .0 .low, c .pre .0 .listed .few)
 
 returns : tie.Need-returns
-returns c = c .before .before .before .before .before .before .before .before .add-each .ensures
+returns c =
+    let f = c .before in
+    let p = f .before .pre in
+    gains-none (p .0 .kept) (p .0 .few .0) (λ k s w. no-head (p .0 .listed) (f .before .args .p .body) (f .first-head .result) (p .0 .low) (f .first-head .ensures) (c .if1 .taken) k s (w .gives))
 
-room-for-sets-requires : tie.Need-room-for-sets-requires
-room-for-sets-requires c κs = search needs
+next-head-requires : tie.Need-next-head-requires
+next-head-requires c κs =
+    let f = c .before in
+    let p = f .before .pre in
+    (omega (arith, c .if1 .left), head-low (p .0 .listed) (f .before .args .p .body) (f .first-head .result) (p .0 .low) (f .first-head .ensures) (c .if1 .left))
 
-room-for-sets-requires-2 : tie.Need-room-for-sets-requires-2
-room-for-sets-requires-2 c κs = search needs
+sub-with-head : tie.Need-sub-with-head
+sub-with-head c = omega (arith, c .before .before .before .before .before .before .before .if1 .left)
 
-room-for-tree-requires : tie.Need-room-for-tree-requires
-room-for-tree-requires c κs = search needs
-
-slice-aggregate-with-room : tie.Need-slice-aggregate-with-room
-slice-aggregate-with-room c = search needs
-
-slice-aggregate-with-room-2 : tie.Need-slice-aggregate-with-room-2
-slice-aggregate-with-room-2 c = search needs
-
-slice-aggregate-with-room-3 : tie.Need-slice-aggregate-with-room-3
-slice-aggregate-with-room-3 c = search needs
-
-with-room-requires : tie.Need-with-room-requires
-with-room-requires c κs = (c .before .before .before .before .before .before .before .before .before .before .before .before .before .before .before .before .before .before .before .before .pre .0, (c .before .before .before .before .before .before .before .before .before .before .before .before .before .before .before .before .before .before .before .before .pre .1, (c .before .before .before .before .before .before .before .before .before .room-for-sets .ensures, c .before .before .before .before .before .before .before .before .room-for-sets2 .ensures, c .before .before .before .before .before .before .before .room-for-tree .ensures)))
-
-same-length-5 : tie.Need-same-length-5
-same-length-5 c = c .before .before .before .before .before .before .before .before .before .before .before .with-room .kept .0
-
-same-length-6 : tie.Need-same-length-6
-same-length-6 c = c .before .before .before .before .before .before .before .before .before .before .before .with-room .kept .1 .0
-
-same-length-7 : tie.Need-same-length-7
-same-length-7 c = c .before .before .before .before .before .before .before .before .before .before .before .with-room .kept .1 .1 .0
-
-same-length-8 : tie.Need-same-length-8
-same-length-8 c = c .before .before .before .before .before .before .before .before .before .before .before .with-room .kept .1 .1 .1 .0
+with-head-requires : tie.Need-with-head-requires
+with-head-requires c κs =
+    let d = c .before .before .before .before .before .before in
+    let f = d .before .before in
+    let p = f .before .pre in
+    (p .0, (p .1, only-head (p .0 .listed) (f .before .args .p .body) (f .first-head .result) (p .0 .low) (f .first-head .ensures) (d .before .if1 .left) (d .next-head .result) (d .next-head .ensures) (c .before .before .before .before .before .if2 .taken)))
 
 returns-2 : tie.Need-returns-2
-returns-2 c = c .before .before .before .before .before .before .before .before .before .before .before .with-room .ensures
+returns-2 c = c .with-head .ensures
+
+room-requires : tie.Need-room-requires
+room-requires c κs = tt
+
+with-room-requires : tie.Need-with-room-requires
+with-room-requires c κs = let p = c .before .before .before .before .before .before .before .before .before .before .before .pre in (p .0, (p .1, c .before .before .before .before .before .before .room .ensures))
+
+returns-3 : tie.Need-returns-3
+returns-3 c = c .with-room .ensures
 
 pub with-each-spec : {M : Type 1} → statement M
 with-each-spec =
     tie.close
     (tie.spec
-    one-head-requires
-    add-each-requires
-    same-length
-    same-length-2
-    same-length-3
-    same-length-4
+    first-head-requires
     returns
-    room-for-sets-requires
-    room-for-sets-requires-2
-    room-for-tree-requires
-    slice-aggregate-with-room
-    slice-aggregate-with-room-2
-    slice-aggregate-with-room-3
+    next-head-requires
+    sub-with-head
+    with-head-requires
+    returns-2
+    room-requires
     with-room-requires
-    same-length-5
-    same-length-6
-    same-length-7
-    same-length-8
-    returns-2)
+    returns-3)

@@ -1,10 +1,10 @@
-use mathlib.Core.Path.{_∙_}
 -- `rules::add_use` meets its contract. First the body is placed, which leaves the uses as they were, then the head.
 use mathlib.Core.Logic.{⊎-elim}
 use mathlib.Core.List.{List}
 use Prim.Native.Nat.{ℕ, _<_}
 use borrow.Author.Needs.{needs}
 use native.Mathlib.Omega.{arith}
+use Rattle.rules.specs.Uses.{bodiesIn}
 use Rattle.rules.specs.Places.{BodyPlaced}
 use Rattle.rules.proofs.Searching.{last-body, last-head, bodies-searched, heads-searched}
 use Rattle.rules.proofs.Bodies.{body-placed}
@@ -13,8 +13,11 @@ use Rattle.rules.proofs.Placing.{use-placed}
 use Rattle.rules.proofs.add_use.Statement.{statement}
 use Rattle.rules.proofs.add_use.Tie as tie
 
-below : {codes lists codes′ lists′ : List ℕ} {b family code r : ℕ} → BodyPlaced codes lists b family code codes′ lists′ r → b < 512 → r < 512
+below : {codes lists codes′ lists′ : List ℕ} {family code r : ℕ} → BodyPlaced codes lists family code codes′ lists′ r → bodiesIn lists < 512 → r < 512
 below p few = ⊎-elim (λ x. omega arith) (λ x. omega arith) (p .placed)
+
+cast-body-at : tie.Need-cast-body-at
+cast-body-at c = search needs
 
 mul-body-at : tie.Need-mul-body-at
 mul-body-at c = search needs
@@ -30,66 +33,40 @@ add-body-at-2 c = search needs
 
 body-at-requires : tie.Need-body-at-requires
 body-at-requires c κs =
-    let s = c .before .before .before .before .before in
+    let s = c .before .before .before .before .before .before in
     let l = s .pre .0 in
     let low = s .pre .1 .2 .family in
     (bodies-searched l _ low, ((l .room .0, l .room .2), (s .pre .1 .0, low, last-body l _ low)))
 
 cast-add-head : tie.Need-cast-add-head
-cast-add-head c = omega (arith, below (c .before .before .before .before .before .before .before .body-at .ensures) (c .before .before .before .before .before .before .before .before .before .before .before .before .before .pre .1 .0))
+cast-add-head c = omega (arith, below (c .before .before .before .body-at .ensures) (c .before .before .before .before .before .before .before .before .before .before .pre .1 .0))
 
 mul-add-head : tie.Need-mul-add-head
-mul-add-head c = omega (arith, below (c .before .before .before .before .before .before .before .body-at .ensures) (c .before .before .before .before .before .before .before .before .before .before .before .before .before .pre .1 .0))
+mul-add-head c = omega (arith, below (c .before .before .before .body-at .ensures) (c .before .before .before .before .before .before .before .before .before .before .pre .1 .0))
 
 add-add-head : tie.Need-add-add-head
-add-add-head c = omega (arith, below (c .before .before .before .before .before .before .before .body-at .ensures) (c .before .before .before .before .before .before .before .before .before .before .before .before .before .pre .1 .0), c .before .before .before .before .before .before .before .before .before .before .before .before .before .pre .1 .2 .head)
+add-add-head c = omega (arith, below (c .before .before .before .before .body-at .ensures) (c .before .before .before .before .before .before .before .before .before .before .before .pre .1 .0), c .before .before .before .before .before .before .before .before .before .before .before .pre .1 .2 .head)
 
 add-head-requires : tie.Need-add-head-requires
 add-head-requires c κs =
-    let s = c .before .before .before .before .before .before .before .before .before .before .before .before .before in
-    let d = body-placed _ (s .pre .1 .2) (s .pre .0) (s .pre .1 .0) (c .before .before .before .before .before .before .before .body-at .ensures) .1 in
-    let low = below (c .before .before .before .before .before .before .before .body-at .ensures) (s .pre .1 .0) in
-    (heads-searched (d .listed) _ low, (d .listed .room, (s .pre .1 .1, low, last-head (d .listed) _ low)))
-
-add-t30 : tie.Need-add-t30
-add-t30 c = search needs
-
-same-length : tie.Need-same-length
-same-length c = c .before .before .before .before .before .before .before .add-head .kept .0 ∙ c .before .before .before .before .before .before .before .before .before .before .before .before .before .before .before .body-at .kept .0
-
-same-length-2 : tie.Need-same-length-2
-same-length-2 c = c .before .before .before .before .before .before .before .add-head .kept .1 .0
-
-same-length-3 : tie.Need-same-length-3
-same-length-3 c = c .before .before .before .before .before .before .before .add-head .kept .1 .1 .0 ∙ c .before .before .before .before .before .before .before .before .before .before .before .before .before .before .before .body-at .kept .1 .0
+    let s = c .before .before .before .before .before .before .before .before .before .before .before in
+    let p = c .before .before .before .before .body-at .ensures in
+    let d = body-placed _ (s .pre .1 .2) (s .pre .0) (s .pre .1 .0) p in
+    let low = below p (s .pre .1 .0) in
+    (heads-searched (d .listed) _ low, (d .listed .room, (omega (arith, d .none, s .pre .1 .1), low, last-head (d .listed) _ low)))
 
 returns : tie.Need-returns
 returns c =
-    let s = c .before .before .before .before .before .before .before .before .before .before .before .before .before .before .before .before .before .before .before .before .before in
-    let d = body-placed _ (s .pre .1 .2) (s .pre .0) (s .pre .1 .0) (c .before .before .before .before .before .before .before .before .before .before .before .before .before .before .before .body-at .ensures) .1 in
-    let a = use-placed d (head-placed _ (s .pre .1 .2) _ (d .listed) (s .pre .1 .1) (d .low) (d .coded) (c .before .before .before .before .before .before .before .add-head .ensures)) in
-    rw (d .new (c .if1 .taken)) at a
-
-same-length-4 : tie.Need-same-length-4
-same-length-4 c = c .before .before .before .before .before .before .before .add-head .kept .0 ∙ c .before .before .before .before .before .before .before .before .before .before .before .before .before .before .before .body-at .kept .0
-
-same-length-5 : tie.Need-same-length-5
-same-length-5 c = c .before .before .before .before .before .before .before .add-head .kept .1 .0
-
-same-length-6 : tie.Need-same-length-6
-same-length-6 c = c .before .before .before .before .before .before .before .add-head .kept .1 .1 .0 ∙ c .before .before .before .before .before .before .before .before .before .before .before .before .before .before .before .body-at .kept .1 .0
-
-returns-2 : tie.Need-returns-2
-returns-2 c =
-    let s = c .before .before .before .before .before .before .before .before .before .before .before .before .before .before .before .before .before .before .before .before .before in
-    let d = body-placed _ (s .pre .1 .2) (s .pre .0) (s .pre .1 .0) (c .before .before .before .before .before .before .before .before .before .before .before .before .before .before .before .body-at .ensures) .1 in
-    let a = use-placed d (head-placed _ (s .pre .1 .2) _ (d .listed) (s .pre .1 .1) (d .low) (d .coded) (c .before .before .before .before .before .before .before .add-head .ensures)) in
-    rw (d .known (c .if1 .left)) at a
+    let s = c .before .before .before .before .before .before .before .before .before .before .before .before in
+    let d = body-placed _ (s .pre .1 .2) (s .pre .0) (s .pre .1 .0) (c .before .before .before .before .before .body-at .ensures) in
+    let a = head-placed _ (s .pre .1 .2) _ _ (d .listed) (omega (arith, d .none, s .pre .1 .1)) (d .low) (d .coded) (c .add-head .ensures) in
+    use-placed (s .pre .0) d (a .0) (a .1)
 
 pub add-use-spec : {M : Type 1} → statement M
 add-use-spec =
     tie.close
     (tie.spec
+    cast-body-at
     mul-body-at
     mul-body-at-2
     add-body-at
@@ -99,12 +76,4 @@ add-use-spec =
     mul-add-head
     add-add-head
     add-head-requires
-    add-t30
-    same-length
-    same-length-2
-    same-length-3
-    returns
-    same-length-4
-    same-length-5
-    same-length-6
-    returns-2)
+    returns)

@@ -35,8 +35,8 @@ sub-if1 c = search needs
 mul-if1 : tie.Need-mul-if1 Inv-loop μ-loop
 mul-if1 c = search needs
 
-shared-slice-read-if1 : tie.Need-shared-slice-read-if1 Inv-loop μ-loop
-shared-slice-read-if1 c = search needs
+element-copy-out-if1 : tie.Need-element-copy-out-if1 Inv-loop μ-loop
+element-copy-out-if1 c = search needs
 
 returns : tie.Need-returns Inv-loop μ-loop
 returns c = found-code (c .before .before .before .loop .c) (c .before .before .before .loop .inv) (c .if1 .taken)
@@ -50,8 +50,8 @@ sub-wide c = search needs
 mul-wide : tie.Need-mul-wide Inv-loop μ-loop
 mul-wide c = search needs
 
-shared-slice-read-wide : tie.Need-shared-slice-read-wide Inv-loop μ-loop
-shared-slice-read-wide c = search needs
+element-copy-out-wide : tie.Need-element-copy-out-wide Inv-loop μ-loop
+element-copy-out-wide c = search needs
 
 wide-requires : tie.Need-wide-requires Inv-loop μ-loop
 wide-requires c κs = search needs
@@ -59,15 +59,15 @@ wide-requires c κs = search needs
 loop-less : tie.Need-loop-less Inv-loop μ-loop
 loop-less c =
     let at = c .before .before .before .before .before .loop in
-    let h = next-lower (c .before .before .before .before .before .before .before .before .pre) (at .c) (c .before .before .before .before .loop-test .taken) (at .inv) in
-    let e = c .wide .ensures in
+    let h = next-lower (c .before .before .before .before .before .before .pre) (at .c) (c .before .before .before .before .loop-test .taken) (at .inv) in
+    let e = c .wide .ensures .0 in
     omega arith
 
 loop-again : tie.Need-loop-again Inv-loop μ-loop
 loop-again c =
     let at = c .before .before .before .before .before .loop in
-    let h = next-lower (c .before .before .before .before .before .before .before .before .pre) (at .c) (c .before .before .before .before .loop-test .taken) (at .inv) in
-    let e = c .wide .ensures in
+    let h = next-lower (c .before .before .before .before .before .before .pre) (at .c) (c .before .before .before .before .loop-test .taken) (at .inv) in
+    let e = c .wide .ensures .0 in
     omega arith
 
 returns-2 : tie.Need-returns-2 Inv-loop μ-loop
@@ -83,12 +83,12 @@ search-spec =
     add-if1
     sub-if1
     mul-if1
-    shared-slice-read-if1
+    element-copy-out-if1
     returns
     add-wide
     sub-wide
     mul-wide
-    shared-slice-read-wide
+    element-copy-out-wide
     wide-requires
     loop-less
     loop-again

@@ -3,7 +3,6 @@
 use mathlib.Core.Path.{subst}
 use Prim.Native.Nat.{ℕ, _+_, _-_, _*_, _/_, _%_, _≤_, _<_}
 use native.Mathlib.Omega.{arith}
-use lib.ListN.{getD}
 use Rattle.store.specs.Entries.{Leads, here, Comes}
 use Rattle.store.proofs.Searches.{onward, slot-used, at-empty, at-entry}
 use Rattle.store.proofs.find.Statement.{statement}
@@ -17,40 +16,37 @@ abbrev μ-loop : tie.MeasureT-loop
 
 -- the function's entry, from the loop's head
 abbrev start : tie.At-loop Inv-loop μ-loop → tie.Start Inv-loop μ-loop
-start l = l .before .before .before .before
-
--- the number in the slot
-abbrev slot : tie.At-loop Inv-loop μ-loop → ℕ
-slot l = getD (start l .args .slots .now) (l .loop .p) 0
+start l = l .before .before
 
 -- past the first test: the slot's entry is one of the n, and its own slots come later
-used : (c : tie.Else1 Inv-loop μ-loop) → (slot (c .before .before) ≤ start (c .before .before) .args .n) × (c .before .before .loop .p < 1022 + 2 * slot (c .before .before))
+used : (c : tie.Else1 Inv-loop μ-loop) → (c .before .wide .result ≤ start (c .before .before .before) .args .n) × (c .before .before .before .loop .p < 1022 + 2 * c .before .wide .result)
 used c =
-    let e = start (c .before .before) in
-    slot-used (e .args .keys .now) (e .args .slots .now) (e .args .n) (e .pre .0) (c .before .before .loop .p) (c .if1 .left)
+    let l = c .before .before .before in
+    let a = start l .args in
+    slot-used (a .keys .now) (a .slots .now) (a .n) (start l .pre .0) (l .loop .p) (c .before .wide .result) (c .before .wide .ensures .0) (c .if1 .left)
 
 mix-requires : tie.Need-mix-requires Inv-loop μ-loop
 mix-requires c κs = tt
 
 loop-holds : tie.Need-loop-holds Inv-loop μ-loop
 loop-holds c =
-    let a = c .before .before .before .args in
+    let a = c .before .args in
     (omega arith, λ q h. subst (λ (y : ℕ). Leads (a .keys .now) (a .slots .now) (a .key) (y % 1024) (y / 1024) q) (c .mix .ensures) h)
 
-mul-c : tie.Need-mul-c Inv-loop μ-loop
-mul-c c = omega arith
+mul-wide : tie.Need-mul-wide Inv-loop μ-loop
+mul-wide c = omega arith
 
-shared-slice-read-c : tie.Need-shared-slice-read-c Inv-loop μ-loop
-shared-slice-read-c c = omega arith
+element-copy-out-wide : tie.Need-element-copy-out-wide Inv-loop μ-loop
+element-copy-out-wide c = omega arith
 
-cast-c : tie.Need-cast-c Inv-loop μ-loop
-cast-c c = omega (arith, c .shared-slice-known3 .given (c .before .loop .p))
+wide-requires : tie.Need-wide-requires Inv-loop μ-loop
+wide-requires c κs = tt
 
 returns : tie.Need-returns Inv-loop μ-loop
 returns c =
-    let e = start (c .before .before) in
-    let l = c .before .before .loop in
-    at-empty (e .args .keys .now) (e .args .slots .now) (e .args .n) (e .pre .0) (e .args .key) (l .p) (e .pre .1 .2) (l .inv .0) (l .inv .1 (l .p) here) (c .if1 .taken)
+    let l = c .before .before .before in
+    let a = start l .args in
+    at-empty (a .keys .now) (a .slots .now) (a .n) (start l .pre .0) (l .loop .p) (c .before .wide .result) (c .before .wide .ensures .0) (a .key) (start l .pre .1 .2) (l .loop .inv .0) (l .loop .inv .1 (l .loop .p) here) (c .if1 .taken)
 
 sub-if2 : tie.Need-sub-if2 Inv-loop μ-loop
 sub-if2 c = omega arith
@@ -58,25 +54,15 @@ sub-if2 c = omega arith
 mul-if2 : tie.Need-mul-if2 Inv-loop μ-loop
 mul-if2 c = let u = used c in omega arith
 
-shared-slice-read-if2 : tie.Need-shared-slice-read-if2 Inv-loop μ-loop
-shared-slice-read-if2 c = let u = used (c .before) in omega arith
+element-copy-out-if2 : tie.Need-element-copy-out-if2 Inv-loop μ-loop
+element-copy-out-if2 c = let u = used c in omega arith
 
 returns-2 : tie.Need-returns-2 Inv-loop μ-loop
 returns-2 c =
-    let e = start (c .before .before .before .before) in
-    let l = c .before .before .before .before .loop in
-    at-entry
-    (e .args .keys .now)
-    (e .args .slots .now)
-    (e .args .n)
-    (e .pre .0)
-    (e .args .key)
-    (l .p)
-    (e .pre .1 .2)
-    (l .inv .0)
-    (l .inv .1 (l .p) here)
-    (c .before .before .if1 .left)
-    (c .if2 .taken)
+    let t = c .before .before in
+    let l = t .before .before .before in
+    let a = start l .args in
+    at-entry (a .keys .now) (a .slots .now) (a .n) (start l .pre .0) (l .loop .p) (t .before .wide .result) (t .before .wide .ensures .0) (a .key) (start l .pre .1 .2) (l .loop .inv .0) (l .loop .inv .1 (l .loop .p) here) (t .if1 .left) (c .if2 .taken)
 
 mul-p : tie.Need-mul-p Inv-loop μ-loop
 mul-p c = let u = used (c .before .before) in omega arith
@@ -92,10 +78,11 @@ loop-less c = let u = used (c .before .before) in omega arith
 
 loop-again : tie.Need-loop-again Inv-loop μ-loop
 loop-again c =
-    let a = start (c .before .before .before .before) .args in
-    let l = c .before .before .before .before .loop in
-    let u = used (c .before .before) in
-    (omega arith, λ q h. l .inv .1 q (onward (a .keys .now) (a .slots .now) (a .key) (l .p) (l .x) q (c .before .before .if1 .left) (c .if2 .left) h))
+    let t = c .before .before in
+    let l = t .before .before .before in
+    let a = start l .args in
+    let u = used t in
+    (omega arith, λ q h. l .loop .inv .1 q (onward (a .keys .now) (a .slots .now) (a .key) (l .loop .p) (l .loop .x) q (t .before .wide .result) (t .before .wide .ensures .0) (t .if1 .left) (c .if2 .left) h))
 
 pub find-spec : {M : Type 1} → statement M
 find-spec =
@@ -105,13 +92,13 @@ find-spec =
     μ-loop
     mix-requires
     loop-holds
-    mul-c
-    shared-slice-read-c
-    cast-c
+    mul-wide
+    element-copy-out-wide
+    wide-requires
     returns
     sub-if2
     mul-if2
-    shared-slice-read-if2
+    element-copy-out-if2
     returns-2
     mul-p
     add-p

@@ -1,0 +1,1 @@
+// Entries closed under statements: definitions. No code.

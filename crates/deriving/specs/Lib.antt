@@ -1,2 +1,0 @@
-pub mod Gaining
-pub mod Offers

@@ -1,0 +1,3 @@
+pub mod Citing
+pub mod Spans
+pub mod Passing

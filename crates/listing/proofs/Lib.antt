@@ -1,3 +1,0 @@
-pub mod Adding
-pub mod Bodies
-pub mod Parts

@@ -1,2 +1,0 @@
-pub mod Partnering
-pub mod Walking

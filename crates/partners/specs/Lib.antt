@@ -1,2 +1,0 @@
-pub mod Partners
-pub mod Walks

@@ -1,0 +1,3 @@
+pub mod Ones
+pub mod Combining
+pub mod Moving

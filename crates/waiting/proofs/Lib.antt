@@ -1,0 +1,4 @@
+pub mod Giving
+pub mod Uniting
+pub mod Linking
+pub mod Gathering
