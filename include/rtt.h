@@ -82,12 +82,12 @@ extern "C" {
 #endif
 
 /* The version of this interface; the pkg-config file and the manual pages take it from here. */
-#define RTT_VERSION "1.0.1"
+#define RTT_VERSION "1.0.2"
 
 /* Bytes of stack that are enough for any call, beside what the caller itself uses. Measured, no call takes more than
 
-     rtt_complete  67,000 bytes
-     rtt_query     61,000 bytes
+     rtt_complete  81,000 bytes
+     rtt_query     81,000 bytes
      rtt_check     30,000 bytes
 
    These are measured, and rounded up to the next thousand. */
