@@ -8,6 +8,26 @@ ghost use Rattle.answering.specs.Answering.{Citing, Answered};
 ghost use Rattle.answering.specs.Marks.{markedBy, spreadBy, Marked};
 ghost use Rattle.answering.specs.Steps.{citedIn, stepsBelow, Held, Turn, upTo};
 
+// Writes the steps on which entry x rests, from place 0 on, with zeros after them, and returns how many there are.
+pub fn answer(
+    credential: &mut [u32],
+    first: &mut [u32],
+    second: &mut [u32],
+    sets: &mut [u32],
+    keys: &[u64],
+    notes: &[u16],
+    n: usize,
+    x: usize,
+) -> usize
+    requires { ⌜ (length (now keys) ≡ 1024) × (length (now notes) ≡ 4096) × Citing (now notes) n ⌝ ∗ ⌜ (length (now first) ≡ length (now credential)) × (length (now second) ≡ length (now credential)) × (length (now sets) ≡ length (now credential)) ⌝ ∗ ⌜ (x < n) × (n ≤ length (now credential)) × (length (now credential) ≤ 1024) ⌝ }
+    ensures { λ r. ⌜ Answered (now (keys .entry)) (now (notes .entry)) n x (length (now (credential .entry))) (now (credential .exit)) (now (first .exit)) (now (second .exit)) (now (sets .exit)) r ⌝ }
+{
+    let mut marks = needed(notes, x);
+    let k = write_steps(&mut marks, credential, first, second, sets, keys, notes, x);
+    clear_from(credential, first, second, sets, k);
+    k
+}
+
 // Word k of entry i.
 fn word_of(notes: &[u16], i: usize, k: usize) -> u16
     requires { ⌜ (length (now notes) ≡ 4096) × (i < 1024) × (k < 4) ⌝ }
@@ -132,24 +152,4 @@ fn clear_from(
     writing::clear32(&mut first[k..]);
     writing::clear32(&mut second[k..]);
     writing::clear32(&mut sets[k..]);
-}
-
-// Writes the steps on which entry x rests, from place 0 on, with zeros after them, and returns how many there are.
-pub fn answer(
-    credential: &mut [u32],
-    first: &mut [u32],
-    second: &mut [u32],
-    sets: &mut [u32],
-    keys: &[u64],
-    notes: &[u16],
-    n: usize,
-    x: usize,
-) -> usize
-    requires { ⌜ (length (now keys) ≡ 1024) × (length (now notes) ≡ 4096) × Citing (now notes) n ⌝ ∗ ⌜ (length (now first) ≡ length (now credential)) × (length (now second) ≡ length (now credential)) × (length (now sets) ≡ length (now credential)) ⌝ ∗ ⌜ (x < n) × (n ≤ length (now credential)) × (length (now credential) ≤ 1024) ⌝ }
-    ensures { λ r. ⌜ Answered (now (keys .entry)) (now (notes .entry)) n x (length (now (credential .entry))) (now (credential .exit)) (now (first .exit)) (now (second .exit)) (now (sets .exit)) r ⌝ }
-{
-    let mut marks = needed(notes, x);
-    let k = write_steps(&mut marks, credential, first, second, sets, keys, notes, x);
-    clear_from(credential, first, second, sets, k);
-    k
 }

@@ -7,39 +7,11 @@ ghost use Rattle.file.specs.Reading.{between};
 ghost use Rattle.asking.specs.Asking.{request, stepLists};
 ghost use Rattle.asking.specs.Admitting.{Admits};
 
-// Four lengths that are the same, 1 to 1,024.
-fn one_length(credential: usize, first: usize, second: usize, sets: usize) -> bool
-    ensures { λ r. ⌜ r ≡ (eqb first credential && eqb second credential && eqb sets credential && between 1 1024 credential) ⌝ }
-{
-    (first == credential)
-        & (second == credential)
-        & (sets == credential)
-        & ((1 <= credential) & (credential <= 1024))
-}
-
-// The role and the set are within the file's numbers.
-fn within(entities: u32, names: u32, role: u32, set: u32) -> bool
-    requires { ⌜ entities ≤ 32 ⌝ }
-    ensures { λ r. ⌜ r ≡ (ltb (role / 32) entities && ltb (role % 32) names && ltb set (2 ^ entities)) ⌝ }
-{
-    (role / 32 < entities) & (role % 32 < names) & ((set as u64) < 1u64 << entities)
-}
-
 // Number and place of the first refusal of 1 to 9, 11 and 12; where there is none, 0 and 0, and how many credentials the policy then has.
 pub struct Admission {
     pub number: u32,
     pub place: u32,
     pub credentials: usize,
-}
-
-fn refused(number: u32, place: u32) -> Admission
-    ensures { λ r. ⌜ r ≡ record { number = number; place = place; credentials = 0 } ⌝ }
-{
-    Admission {
-        number,
-        place,
-        credentials: 0,
-    }
 }
 
 // Refusals 1 to 9, 11 and 12; where there is none, the policy then has the file's credentials.
@@ -74,5 +46,33 @@ pub fn judge(
         number: 0,
         place: 0,
         credentials: s.credentials,
+    }
+}
+
+// Four lengths that are the same, 1 to 1,024.
+fn one_length(credential: usize, first: usize, second: usize, sets: usize) -> bool
+    ensures { λ r. ⌜ r ≡ (eqb first credential && eqb second credential && eqb sets credential && between 1 1024 credential) ⌝ }
+{
+    (first == credential)
+        & (second == credential)
+        & (sets == credential)
+        & ((1 <= credential) & (credential <= 1024))
+}
+
+// The role and the set are within the file's numbers.
+fn within(entities: u32, names: u32, role: u32, set: u32) -> bool
+    requires { ⌜ entities ≤ 32 ⌝ }
+    ensures { λ r. ⌜ r ≡ (ltb (role / 32) entities && ltb (role % 32) names && ltb set (2 ^ entities)) ⌝ }
+{
+    (role / 32 < entities) & (role % 32 < names) & ((set as u64) < 1u64 << entities)
+}
+
+fn refused(number: u32, place: u32) -> Admission
+    ensures { λ r. ⌜ r ≡ record { number = number; place = place; credentials = 0 } ⌝ }
+{
+    Admission {
+        number,
+        place,
+        credentials: 0,
     }
 }

@@ -10,29 +10,6 @@ ghost use Rattle.replies.specs.Lengths.{StepSizes};
 ghost use Rattle.check_bytes.specs.Interface.{checkReply};
 use checking::Checked;
 
-fn number_of(answer: Checked) -> u64
-    ensures { λ r. ⌜ r ≡ word (λ n. n) (says answer) ⌝ }
-{
-    match answer {
-        Checked::Level(level) => level as u64,
-        Checked::Refused { number, place } => replies::refusal(number, place),
-    }
-}
-
-fn fewer(a: usize, b: usize) -> usize
-    ensures { λ r. ⌜ r ≡ min a b ⌝ }
-{
-    if a < b { a } else { b }
-}
-
-// Reads the first n entries into a list of 1,024 places.
-fn read(room: &mut [u32; 1024], bytes: &[u8], n: usize)
-    requires { ⌜ (length (now room) ≡ 1024) × (n ≤ 1024) × (4 * n ≤ length (now bytes)) ⌝ }
-    ensures { λ _. ⌜ (length (now (room .exit)) ≡ 1024) × (take n (now (room .exit)) ≡ firstEntries 4 n (now (bytes .entry))) ⌝ }
-{
-    codec::decode32(room, bytes, n);
-}
-
 // Of n entries each; those past the step count are not read.
 pub fn check(
     file: &[u8],
@@ -69,4 +46,27 @@ pub fn check(
         &set_room[..n],
         steps,
     ))
+}
+
+fn number_of(answer: Checked) -> u64
+    ensures { λ r. ⌜ r ≡ word (λ n. n) (says answer) ⌝ }
+{
+    match answer {
+        Checked::Level(level) => level as u64,
+        Checked::Refused { number, place } => replies::refusal(number, place),
+    }
+}
+
+fn fewer(a: usize, b: usize) -> usize
+    ensures { λ r. ⌜ r ≡ min a b ⌝ }
+{
+    if a < b { a } else { b }
+}
+
+// Reads the first n entries into a list of 1,024 places.
+fn read(room: &mut [u32; 1024], bytes: &[u8], n: usize)
+    requires { ⌜ (length (now room) ≡ 1024) × (n ≤ 1024) × (4 * n ≤ length (now bytes)) ⌝ }
+    ensures { λ _. ⌜ (length (now (room .exit)) ≡ 1024) × (take n (now (room .exit)) ≡ firstEntries 4 n (now (bytes .entry))) ⌝ }
+{
+    codec::decode32(room, bytes, n);
 }

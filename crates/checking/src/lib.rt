@@ -15,6 +15,62 @@ pub enum Checked {
     Refused { number: u32, place: u32 },
 }
 
+// Checks the first `steps` steps as a proof of the membership at the minute.
+pub fn check(
+    file: &[u8],
+    role: u32,
+    set: u32,
+    minute: u32,
+    credential: &[u32],
+    first: &[u32],
+    second: &[u32],
+    sets: &[u32],
+    steps: usize,
+) -> Checked
+    ensures { λ r. ⌜ says r ≡ checking (now (file .entry)) (request role set minute) (stepLists (now (credential .entry)) (now (first .entry)) (now (second .entry)) (now (sets .entry))) steps ⌝ }
+{
+    let mut policy = policy::room();
+    let j = asking::judge(
+        &mut policy,
+        file,
+        role,
+        set,
+        minute,
+        credential,
+        first,
+        second,
+        sets,
+    );
+    if j.number != 0 {
+        return Checked::Refused {
+            number: j.number,
+            place: j.place,
+        };
+    }
+    if !((1 <= steps) & (steps <= credential.len())) {
+        return Checked::Refused {
+            number: 14,
+            place: 0,
+        };
+    }
+    let mut roles = room();
+    let mut levels = room();
+    conclude(
+        &mut roles,
+        &mut levels,
+        &policy,
+        j.credentials,
+        role,
+        set,
+        minute,
+        &credential[..steps],
+        &first[..steps],
+        &second[..steps],
+        &sets[..steps],
+        steps,
+    )
+}
+
 // Step i of the lists.
 fn step_at(credential: &[u32], first: &[u32], second: &[u32], sets: &[u32], i: usize) -> Step
     requires { ⌜ (i < length (now credential)) × (i < length (now first)) × (i < length (now second)) × (i < length (now sets)) ⌝ }
@@ -108,60 +164,4 @@ fn room() -> [u32; 1024]
     ensures { λ r. ⌜ length r ≡ 1024 ⌝ }
 {
     [0; 1024]
-}
-
-// Checks the first `steps` steps as a proof of the membership at the minute.
-pub fn check(
-    file: &[u8],
-    role: u32,
-    set: u32,
-    minute: u32,
-    credential: &[u32],
-    first: &[u32],
-    second: &[u32],
-    sets: &[u32],
-    steps: usize,
-) -> Checked
-    ensures { λ r. ⌜ says r ≡ checking (now (file .entry)) (request role set minute) (stepLists (now (credential .entry)) (now (first .entry)) (now (second .entry)) (now (sets .entry))) steps ⌝ }
-{
-    let mut policy = policy::room();
-    let j = asking::judge(
-        &mut policy,
-        file,
-        role,
-        set,
-        minute,
-        credential,
-        first,
-        second,
-        sets,
-    );
-    if j.number != 0 {
-        return Checked::Refused {
-            number: j.number,
-            place: j.place,
-        };
-    }
-    if !((1 <= steps) & (steps <= credential.len())) {
-        return Checked::Refused {
-            number: 14,
-            place: 0,
-        };
-    }
-    let mut roles = room();
-    let mut levels = room();
-    conclude(
-        &mut roles,
-        &mut levels,
-        &policy,
-        j.credentials,
-        role,
-        set,
-        minute,
-        &credential[..steps],
-        &first[..steps],
-        &second[..steps],
-        &sets[..steps],
-        steps,
-    )
 }

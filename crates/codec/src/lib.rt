@@ -5,39 +5,6 @@ ghost use Prim.Native.Nat.{_*_, _^_, _≤_, _<_};
 ghost use lib.ListN.{length, take, drop};
 ghost use Rattle.codec.specs.Bytes.{bytes, entry, bytesOf, firstEntries};
 
-fn wide(x: u8) -> u64
-    ensures { λ r. ⌜ (r ≡ x) × (x < 256) ⌝ }
-{
-    x as u64
-}
-
-// The number that at most 8 bytes are.
-fn get(src: &[u8]) -> u64
-    requires { ⌜ length (now src) ≤ 8 ⌝ }
-    ensures { λ r. ⌜ (r ≡ entry (length (now (src .entry))) (now (src .entry))) × (r < 256 ^ length (now (src .entry))) ⌝ }
-{
-    let mut number: u64 = 0;
-    let mut i = src.len();
-    while 0 < i {
-        i -= 1;
-        number = wide(src[i]) + 256 * number;
-    }
-    number
-}
-
-// Fills a list with a number's bytes.
-fn put(dst: &mut [u8], x: u64)
-    ensures { λ _. ⌜ now (dst .exit) ≡ bytes (length (now (dst .entry))) x ⌝ }
-{
-    let mut rest = x;
-    let mut i = 0;
-    while i < dst.len() {
-        dst[i] = (rest % 256) as u8;
-        rest /= 256;
-        i += 1;
-    }
-}
-
 // The first n entries of 4 bytes, into the first n places.
 pub fn decode32(dst: &mut [u32], src: &[u8], n: usize)
     requires { ⌜ (n ≤ length (now dst)) × (4 * n ≤ length (now src)) ⌝ }
@@ -73,6 +40,39 @@ pub fn encode64(dst: &mut [u8], src: &[u64], n: usize)
     while i < n {
         let at = 8 * i;
         put(&mut dst[at..at + 8], src[i]);
+        i += 1;
+    }
+}
+
+fn wide(x: u8) -> u64
+    ensures { λ r. ⌜ (r ≡ x) × (x < 256) ⌝ }
+{
+    x as u64
+}
+
+// The number that at most 8 bytes are.
+fn get(src: &[u8]) -> u64
+    requires { ⌜ length (now src) ≤ 8 ⌝ }
+    ensures { λ r. ⌜ (r ≡ entry (length (now (src .entry))) (now (src .entry))) × (r < 256 ^ length (now (src .entry))) ⌝ }
+{
+    let mut number: u64 = 0;
+    let mut i = src.len();
+    while 0 < i {
+        i -= 1;
+        number = wide(src[i]) + 256 * number;
+    }
+    number
+}
+
+// Fills a list with a number's bytes.
+fn put(dst: &mut [u8], x: u64)
+    ensures { λ _. ⌜ now (dst .exit) ≡ bytes (length (now (dst .entry))) x ⌝ }
+{
+    let mut rest = x;
+    let mut i = 0;
+    while i < dst.len() {
+        dst[i] = (rest % 256) as u8;
+        rest /= 256;
         i += 1;
     }
 }

@@ -18,6 +18,28 @@ pub fn table_fits(roles: usize, sets: usize, spans: usize) -> bool
         & ((sets / 4 == n) & (spans / 8 == n) & ((1 <= n) & (n <= 1024)))
 }
 
+// With lists of its own: bytes of n entries each.
+pub fn complete(roles: &mut [u8], sets: &mut [u8], spans: &mut [u8], file: &[u8], n: usize) -> u64
+    requires { ⌜ TableSizes (lent (now roles) (now sets) (now spans)) n ⌝ }
+    ensures { λ r. ⌜ r ≡ word (λ n. n) (completeBytes (now (file .entry)) (lent (now (roles .entry)) (now (sets .entry)) (now (spans .entry))) .reply) ⌝ }
+    ensures { λ _. ⌜ lent (now (roles .exit)) (now (sets .exit)) (now (spans .exit)) ≡ completeBytes (now (file .entry)) (lent (now (roles .entry)) (now (sets .entry)) (now (spans .entry))) .lists ⌝ }
+{
+    let mut role_room = replies::room32();
+    let mut set_room = replies::room32();
+    let mut span_room = room64();
+    let answer = completing::complete(
+        file,
+        &mut role_room[..n],
+        &mut set_room[..n],
+        &mut span_room[..n],
+    );
+    let count = changed(answer, n);
+    codec::encode32(roles, &role_room, count);
+    codec::encode32(sets, &set_room, count);
+    codec::encode64(spans, &span_room, count);
+    number_of(answer)
+}
+
 // How many of n entries completing wrote or cleared.
 fn changed(answer: Completed, n: usize) -> usize
     ensures { λ r. ⌜ r ≡ if (writes (says answer)) n 0 ⌝ }
@@ -41,26 +63,4 @@ fn room64() -> [u64; 1024]
     ensures { λ r. ⌜ length r ≡ 1024 ⌝ }
 {
     [0; 1024]
-}
-
-// With lists of its own: bytes of n entries each.
-pub fn complete(roles: &mut [u8], sets: &mut [u8], spans: &mut [u8], file: &[u8], n: usize) -> u64
-    requires { ⌜ TableSizes (lent (now roles) (now sets) (now spans)) n ⌝ }
-    ensures { λ r. ⌜ r ≡ word (λ n. n) (completeBytes (now (file .entry)) (lent (now (roles .entry)) (now (sets .entry)) (now (spans .entry))) .reply) ⌝ }
-    ensures { λ _. ⌜ lent (now (roles .exit)) (now (sets .exit)) (now (spans .exit)) ≡ completeBytes (now (file .entry)) (lent (now (roles .entry)) (now (sets .entry)) (now (spans .entry))) .lists ⌝ }
-{
-    let mut role_room = replies::room32();
-    let mut set_room = replies::room32();
-    let mut span_room = room64();
-    let answer = completing::complete(
-        file,
-        &mut role_room[..n],
-        &mut set_room[..n],
-        &mut span_room[..n],
-    );
-    let count = changed(answer, n);
-    codec::encode32(roles, &role_room, count);
-    codec::encode32(sets, &set_room, count);
-    codec::encode64(spans, &span_room, count);
-    number_of(answer)
 }

@@ -63,6 +63,92 @@ pub struct Refusal {
     pub place: u32,
 }
 
+// Which of s, c and t a kind uses. Every kind uses b.
+struct Used {
+    s: bool,
+    c: bool,
+    t: bool,
+}
+
+// Refusals 1 to 3, and the sizes.
+pub fn read_head(file: &[u8]) -> Head
+    ensures { λ r. ⌜ r ≡ headIn (now (file .entry)) ⌝ }
+{
+    if file.len() < 6 {
+        return no_sizes(1);
+    }
+    let entities = two_at(file, 0);
+    let names = two_at(file, 2);
+    let credentials = two_at(file, 4);
+    if !sizes_fit(entities, names, credentials) {
+        return no_sizes(2);
+    }
+    let n = credentials as usize;
+    if file.len() != 6 + 16 * n {
+        return no_sizes(3);
+    }
+    Head {
+        number: 0,
+        entities,
+        names,
+        credentials: n,
+    }
+}
+
+// The number of the first of refusals 4 to 7 that credential i has, or 0.
+pub fn fault(file: &[u8], h: Head, i: usize) -> u32
+    requires { ⌜ (Headed (now file) h) × (i < N (now file)) ⌝ }
+    ensures { λ r. ⌜ r ≡ firstNumber (credentialRows (now (file .entry)) i) ⌝ }
+{
+    if 5 < file[6 + 8 * i] {
+        return 4;
+    }
+    let e = h.entities;
+    let r = h.names;
+    if !in_range(file, i, e, r) {
+        return 5;
+    }
+    if !zeroed(file, i) {
+        return 6;
+    }
+    let v = read_period(file, h, i);
+    if v.until <= v.from {
+        return 7;
+    }
+    0
+}
+
+// The period of credential i.
+pub fn read_period(file: &[u8], h: Head, i: usize) -> Period
+    requires { ⌜ (Headed (now file) h) × (i < N (now file)) ⌝ }
+    ensures { λ r. ⌜ r ≡ periodIn (now (file .entry)) i ⌝ }
+{
+    let n = h.credentials;
+    let p = 6 + 8 * n + 8 * i;
+    Period {
+        from: four_at(file, p),
+        until: four_at(file, p + 4),
+    }
+}
+
+// The credential at a position, if the head passes 1 to 3 and the credential 4 to 7.
+pub fn read_credential(file: &[u8], i: usize) -> Found
+    ensures { λ r. ⌜ r ≡ foundIn (now (file .entry)) i ⌝ }
+{
+    let h = read_head(file);
+    let n = h.credentials;
+    if h.number != 0 {
+        return Found::End;
+    }
+    if n <= i {
+        return Found::End;
+    }
+    if fault(file, h, i) != 0 {
+        return Found::End;
+    }
+    Found::Credential(value_at(file, h, i))
+}
+
 fn wide(x: u8) -> u32
     ensures { λ r. ⌜ (r ≡ x) × (x < 256) ⌝ }
 {
@@ -100,31 +186,6 @@ fn sizes_fit(entities: u32, names: u32, credentials: u32) -> bool
     within(1, 32, entities) & within(1, 32, names) & within(0, 256, credentials)
 }
 
-// Refusals 1 to 3, and the sizes.
-pub fn read_head(file: &[u8]) -> Head
-    ensures { λ r. ⌜ r ≡ headIn (now (file .entry)) ⌝ }
-{
-    if file.len() < 6 {
-        return no_sizes(1);
-    }
-    let entities = two_at(file, 0);
-    let names = two_at(file, 2);
-    let credentials = two_at(file, 4);
-    if !sizes_fit(entities, names, credentials) {
-        return no_sizes(2);
-    }
-    let n = credentials as usize;
-    if file.len() != 6 + 16 * n {
-        return no_sizes(3);
-    }
-    Head {
-        number: 0,
-        entities,
-        names,
-        credentials: n,
-    }
-}
-
 fn no_sizes(number: u32) -> Head
     ensures { λ r. ⌜ r ≡ noSizes number ⌝ }
 {
@@ -134,13 +195,6 @@ fn no_sizes(number: u32) -> Head
         names: 0,
         credentials: 0,
     }
-}
-
-// Which of s, c and t a kind uses. Every kind uses b.
-struct Used {
-    s: bool,
-    c: bool,
-    t: bool,
 }
 
 fn used_by(kind: u8) -> Used
@@ -206,29 +260,6 @@ fn zeroed(file: &[u8], i: usize) -> bool
         & (file[at + 7] == 0)
 }
 
-// The number of the first of refusals 4 to 7 that credential i has, or 0.
-pub fn fault(file: &[u8], h: Head, i: usize) -> u32
-    requires { ⌜ (Headed (now file) h) × (i < N (now file)) ⌝ }
-    ensures { λ r. ⌜ r ≡ firstNumber (credentialRows (now (file .entry)) i) ⌝ }
-{
-    if 5 < file[6 + 8 * i] {
-        return 4;
-    }
-    let e = h.entities;
-    let r = h.names;
-    if !in_range(file, i, e, r) {
-        return 5;
-    }
-    if !zeroed(file, i) {
-        return 6;
-    }
-    let v = read_period(file, h, i);
-    if v.until <= v.from {
-        return 7;
-    }
-    0
-}
-
 fn role_of(issuer: u8, name: u8) -> Role
     ensures { λ r. ⌜ r ≡ roleOf issuer name ⌝ }
 {
@@ -265,19 +296,6 @@ fn body_of(kind: u8, b: u8, s: u8, c: u8, t: u8) -> Body
     }
 }
 
-// The period of credential i.
-pub fn read_period(file: &[u8], h: Head, i: usize) -> Period
-    requires { ⌜ (Headed (now file) h) × (i < N (now file)) ⌝ }
-    ensures { λ r. ⌜ r ≡ periodIn (now (file .entry)) i ⌝ }
-{
-    let n = h.credentials;
-    let p = 6 + 8 * n + 8 * i;
-    Period {
-        from: four_at(file, p),
-        until: four_at(file, p + 4),
-    }
-}
-
 fn value_at(file: &[u8], h: Head, i: usize) -> Credential
     requires { ⌜ (Headed (now file) h) × (i < N (now file)) × (firstNumber (credentialRows (now file) i) ≡ 0) ⌝ }
     ensures { λ r. ⌜ found r ≡ foundOf (now (file .entry)) i (bodyIn (now (file .entry)) i) ⌝ }
@@ -295,22 +313,4 @@ fn value_at(file: &[u8], h: Head, i: usize) -> Credential
         ),
         period: v,
     }
-}
-
-// The credential at a position, if the head passes 1 to 3 and the credential 4 to 7.
-pub fn read_credential(file: &[u8], i: usize) -> Found
-    ensures { λ r. ⌜ r ≡ foundIn (now (file .entry)) i ⌝ }
-{
-    let h = read_head(file);
-    let n = h.credentials;
-    if h.number != 0 {
-        return Found::End;
-    }
-    if n <= i {
-        return Found::End;
-    }
-    if fault(file, h, i) != 0 {
-        return Found::End;
-    }
-    Found::Credential(value_at(file, h, i))
 }

@@ -14,16 +14,6 @@ pub struct Replies {
     pub checked: Checked,
 }
 
-// The step count of a proof, 0 where there is none.
-fn steps_of(answer: Answer) -> usize
-    ensures { λ r. ⌜ r ≡ stepsOf answer ⌝ }
-{
-    match answer {
-        Answer::Proof { steps, level } => steps as usize,
-        Answer::Refused { number, place } => 0,
-    }
-}
-
 // Completes the table, queries the membership, and checks the proof in the lists as querying left them.
 pub fn ask(
     file: &[u8],
@@ -58,5 +48,15 @@ pub fn ask(
         completed,
         answer,
         checked,
+    }
+}
+
+// The step count of a proof, 0 where there is none.
+fn steps_of(answer: Answer) -> usize
+    ensures { λ r. ⌜ r ≡ stepsOf answer ⌝ }
+{
+    match answer {
+        Answer::Proof { steps, level } => steps as usize,
+        Answer::Refused { number, place } => 0,
     }
 }

@@ -19,6 +19,29 @@ pub struct Step {
     pub set: u32,
 }
 
+// Position, head, body, period.
+pub fn credential_line(out: &mut [u8; 128], position: u32, c: Credential) -> usize
+    ensures { λ r. ⌜ Lined (now (out .entry)) (now (out .exit)) r (credentialLine position c) ⌝ }
+{
+    let body = c.body;
+    let head_at = put_label(out, 0, position);
+    let comma = put_statement(out, head_at, c.head, body);
+    let from_at = text::put_bytes(out, comma, b", ");
+    put_period(out, from_at, c.period)
+}
+
+// Number, what the step shows, by which credential, from which steps. c is the credential that the step names.
+pub fn step_line(out: &mut [u8; 128], number: u32, s: Step, c: Credential) -> usize
+    ensures { λ r. ⌜ Lined (now (out .entry)) (now (out .exit)) r (stepLine number s c) ⌝ }
+{
+    let body = c.body;
+    let shown_at = put_label(out, 0, number);
+    let by = put_membership(out, shown_at, c.head, s.set);
+    let credential_at = text::put_bytes(out, by, b"by credential ");
+    let cited_at = text::put_decimal(out, credential_at, s.credential);
+    put_cited(out, cited_at, body, s.first, s.second)
+}
+
 // Each private function writes at `at` and returns the next place. What stands before `at` and from that place on stays.
 
 // Number, colon, space.
@@ -93,17 +116,6 @@ fn put_period(out: &mut [u8], at: usize, period: Period) -> usize
     text::put_field(out, to_at, period.until, b'\n')
 }
 
-// Position, head, body, period.
-pub fn credential_line(out: &mut [u8; 128], position: u32, c: Credential) -> usize
-    ensures { λ r. ⌜ Lined (now (out .entry)) (now (out .exit)) r (credentialLine position c) ⌝ }
-{
-    let body = c.body;
-    let head_at = put_label(out, 0, position);
-    let comma = put_statement(out, head_at, c.head, body);
-    let from_at = text::put_bytes(out, comma, b", ");
-    put_period(out, from_at, c.period)
-}
-
 // Issuer, name, set.
 fn put_membership(out: &mut [u8], at: usize, role: Role, set: u32) -> usize
     requires { ⌜ at + 33 ≤ length (now out) ⌝ }
@@ -144,16 +156,4 @@ fn put_two(out: &mut [u8], at: usize, first: u32, second: u32) -> usize
     let first_at = text::put_bytes(out, at, b" from ");
     let second_at = text::put_field(out, first_at, first, b' ');
     text::put_field(out, second_at, second, b'\n')
-}
-
-// Number, what the step shows, by which credential, from which steps. c is the credential that the step names.
-pub fn step_line(out: &mut [u8; 128], number: u32, s: Step, c: Credential) -> usize
-    ensures { λ r. ⌜ Lined (now (out .entry)) (now (out .exit)) r (stepLine number s c) ⌝ }
-{
-    let body = c.body;
-    let shown_at = put_label(out, 0, number);
-    let by = put_membership(out, shown_at, c.head, s.set);
-    let credential_at = text::put_bytes(out, by, b"by credential ");
-    let cited_at = text::put_decimal(out, credential_at, s.credential);
-    put_cited(out, cited_at, body, s.first, s.second)
 }

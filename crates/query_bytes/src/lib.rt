@@ -9,25 +9,6 @@ ghost use Rattle.replies.specs.Replies.{writes};
 ghost use Rattle.query_bytes.specs.Interface.{stepsAndLevel, QueriedBytes};
 use querying::Answer;
 
-// How many of n entries querying wrote or cleared.
-fn changed(answer: Answer, n: usize) -> usize
-    ensures { λ r. ⌜ r ≡ if (writes (says answer)) n 0 ⌝ }
-{
-    match answer {
-        Answer::Proof { steps: _, level: _ } => n,
-        Answer::Refused { number, place: _ } => replies::cleared(number, n),
-    }
-}
-
-fn number_of(answer: Answer) -> u64
-    ensures { λ r. ⌜ r ≡ word stepsAndLevel (says answer) ⌝ }
-{
-    match answer {
-        Answer::Proof { steps, level } => steps as u64 + level as u64 * 65536,
-        Answer::Refused { number, place } => replies::refusal(number, place),
-    }
-}
-
 // With lists of its own: bytes of n entries each.
 pub fn query(
     credential: &mut [u8],
@@ -63,4 +44,23 @@ pub fn query(
     codec::encode32(second, &second_room, count);
     codec::encode32(sets, &set_room, count);
     number_of(answer)
+}
+
+// How many of n entries querying wrote or cleared.
+fn changed(answer: Answer, n: usize) -> usize
+    ensures { λ r. ⌜ r ≡ if (writes (says answer)) n 0 ⌝ }
+{
+    match answer {
+        Answer::Proof { steps: _, level: _ } => n,
+        Answer::Refused { number, place: _ } => replies::cleared(number, n),
+    }
+}
+
+fn number_of(answer: Answer) -> u64
+    ensures { λ r. ⌜ r ≡ word stepsAndLevel (says answer) ⌝ }
+{
+    match answer {
+        Answer::Proof { steps, level } => steps as u64 + level as u64 * 65536,
+        Answer::Refused { number, place } => replies::refusal(number, place),
+    }
 }

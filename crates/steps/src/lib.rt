@@ -33,6 +33,30 @@ struct Cited {
     level: u32,
 }
 
+// Step i, after those before it, by the policy's first n credentials.
+pub fn judge_step(
+    policy: &[u64; 512],
+    n: usize,
+    minute: u32,
+    i: usize,
+    s: Step,
+    roles: &[u32; 1024],
+    sets: &[u32],
+    levels: &[u32; 1024],
+) -> Judged
+    requires { ⌜ n ≤ 256 ⌝ ∗ ⌜ Known (now sets) (now levels) i ⌝ }
+    ensures { λ r. ⌜ Judges (credentialsOf (now (policy .entry)) n) minute (shownIn (now (roles .entry)) (now (sets .entry)) (now (levels .entry)) i) (stepOf s) r ⌝ }
+{
+    let at = s.credential as usize;
+    if n <= at {
+        return broken();
+    }
+    if !policy::valid_at(policy, at, minute) {
+        return broken();
+    }
+    judge_by(policy::statement_at(policy, at), i, s, roles, sets, levels)
+}
+
 fn broken() -> Judged
     ensures { λ r. ⌜ r ≡ unkept ⌝ }
 {
@@ -169,28 +193,4 @@ fn judge_by(
         1 => by_one(b, i, s, roles, sets, levels),
         _ => by_two(b, i, s, roles, sets, levels),
     }
-}
-
-// Step i, after those before it, by the policy's first n credentials.
-pub fn judge_step(
-    policy: &[u64; 512],
-    n: usize,
-    minute: u32,
-    i: usize,
-    s: Step,
-    roles: &[u32; 1024],
-    sets: &[u32],
-    levels: &[u32; 1024],
-) -> Judged
-    requires { ⌜ n ≤ 256 ⌝ ∗ ⌜ Known (now sets) (now levels) i ⌝ }
-    ensures { λ r. ⌜ Judges (credentialsOf (now (policy .entry)) n) minute (shownIn (now (roles .entry)) (now (sets .entry)) (now (levels .entry)) i) (stepOf s) r ⌝ }
-{
-    let at = s.credential as usize;
-    if n <= at {
-        return broken();
-    }
-    if !policy::valid_at(policy, at, minute) {
-        return broken();
-    }
-    judge_by(policy::statement_at(policy, at), i, s, roles, sets, levels)
 }

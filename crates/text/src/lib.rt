@@ -15,14 +15,6 @@ pub enum Parsed {
 
 // Each function that puts something writes it at `at` and returns the next place. What stands before `at` and from that place on stays.
 
-fn put_byte(out: &mut [u8], at: usize, b: u8) -> usize
-    requires { ⌜ at < length (now out) ⌝ }
-    ensures { λ r. ⌜ Put (now (out .entry)) (now (out .exit)) at r 1 (b ∷ []) ⌝ }
-{
-    out[at] = b;
-    at + 1
-}
-
 pub fn put_bytes(out: &mut [u8], at: usize, bytes: &[u8]) -> usize
     requires { ⌜ at + length (now bytes) ≤ length (now out) ⌝ }
     ensures { λ r. ⌜ Put (now (out .entry)) (now (out .exit)) at r (length (now (bytes .entry))) (now (bytes .entry)) ⌝ }
@@ -33,25 +25,6 @@ pub fn put_bytes(out: &mut [u8], at: usize, bytes: &[u8]) -> usize
         i += 1;
     }
     at + i
-}
-
-// The last digit of x.
-fn put_digit(out: &mut [u8], at: usize, x: u32) -> usize
-    requires { ⌜ at < length (now out) ⌝ }
-    ensures { λ r. ⌜ Put (now (out .entry)) (now (out .exit)) at r 1 ((48 + x % 10) ∷ []) ⌝ }
-{
-    put_byte(out, at, b'0' + (x % 10) as u8)
-}
-
-fn put_number(out: &mut [u8], at: usize, x: u32) -> usize
-    requires { ⌜ at + length (decimal x) ≤ length (now out) ⌝ }
-    ensures { λ r. ⌜ Put (now (out .entry)) (now (out .exit)) at r (length (decimal x)) (decimal x) ⌝ }
-{
-    if x < 10 {
-        return put_digit(out, at, x);
-    }
-    let last = put_number(out, at, x / 10);
-    put_digit(out, last, x)
 }
 
 // A number, of at most ten digits.
@@ -106,12 +79,6 @@ pub fn interval_line(out: &mut [u8; 128], role: u32, set: u32, from: u32, to: u3
     put_field(out, to_at, to, b'\n')
 }
 
-fn is_digit(b: u8) -> bool
-    ensures { λ r. ⌜ r ≡ digit b ⌝ }
-{
-    (b'0' <= b) & (b <= b'9')
-}
-
 // The number of up to 32 bits that bytes say in decimal. Leading zeros are allowed.
 pub fn parse(bytes: &[u8]) -> Parsed
     ensures { λ r. ⌜ r ≡ numberIn (now (bytes .entry)) ⌝ }
@@ -133,4 +100,37 @@ pub fn parse(bytes: &[u8]) -> Parsed
         i += 1;
     }
     Parsed::Number(x as u32)
+}
+
+fn put_byte(out: &mut [u8], at: usize, b: u8) -> usize
+    requires { ⌜ at < length (now out) ⌝ }
+    ensures { λ r. ⌜ Put (now (out .entry)) (now (out .exit)) at r 1 (b ∷ []) ⌝ }
+{
+    out[at] = b;
+    at + 1
+}
+
+// The last digit of x.
+fn put_digit(out: &mut [u8], at: usize, x: u32) -> usize
+    requires { ⌜ at < length (now out) ⌝ }
+    ensures { λ r. ⌜ Put (now (out .entry)) (now (out .exit)) at r 1 ((48 + x % 10) ∷ []) ⌝ }
+{
+    put_byte(out, at, b'0' + (x % 10) as u8)
+}
+
+fn put_number(out: &mut [u8], at: usize, x: u32) -> usize
+    requires { ⌜ at + length (decimal x) ≤ length (now out) ⌝ }
+    ensures { λ r. ⌜ Put (now (out .entry)) (now (out .exit)) at r (length (decimal x)) (decimal x) ⌝ }
+{
+    if x < 10 {
+        return put_digit(out, at, x);
+    }
+    let last = put_number(out, at, x / 10);
+    put_digit(out, last, x)
+}
+
+fn is_digit(b: u8) -> bool
+    ensures { λ r. ⌜ r ≡ digit b ⌝ }
+{
+    (b'0' <= b) & (b <= b'9')
 }

@@ -17,37 +17,6 @@ pub enum Entry {
     Refused { number: u32, place: u32 },
 }
 
-// Refusals 1 to 8.
-fn open(file: &[u8]) -> file::Refusal
-    ensures { λ r. ⌜ r ≡ opened (now (file .entry)) ⌝ }
-{
-    let mut policy = policy::room();
-    let mut ends = ends::no_ends();
-    let summary = ends::survey(&mut policy, &mut ends, file);
-    file::Refusal {
-        number: summary.number,
-        place: summary.place,
-    }
-}
-
-fn found_at(file: &[u8], at: usize, number: u32) -> file::Found
-    ensures { λ r. ⌜ r ≡ foundAt (now (file .entry)) at number ⌝ }
-{
-    if number != 0 {
-        return file::Found::End;
-    }
-    file::read_credential(file, at)
-}
-
-fn place_after(file: &[u8], at: usize, number: u32) -> usize
-    ensures { λ r. ⌜ r ≡ placeAfter (now (file .entry)) at number ⌝ }
-{
-    match found_at(file, at, number) {
-        file::Found::Credential(_) => at + 1,
-        file::Found::End => at,
-    }
-}
-
 // A walker at the first credential of a file that passes 1 to 8, or a refused one.
 pub fn walk<'a>(file: &'a [u8]) -> Walker<'a>
     ensures { λ r. ⌜ r ≡ walkerOf (file .entry) ⌝ }
@@ -91,19 +60,6 @@ pub fn refusal<'a>(w: Walker<'a>) -> file::Refusal
     }
 }
 
-// The credential at a place of a file; the end also where the file is refused.
-fn nth(file: &[u8], at: usize) -> file::Found
-    ensures { λ r. ⌜ r ≡ nthOf (now (file .entry)) at ⌝ }
-{
-    let w = walk(file);
-    credential(Walker {
-        file: w.file,
-        at,
-        number: w.number,
-        place: w.place,
-    })
-}
-
 // The credential at a place of a file, for callers that hold no walker.
 pub fn entry_at(file: &[u8], at: usize) -> Entry
     ensures { λ r. ⌜ r ≡ entryIn (now (file .entry)) at ⌝ }
@@ -119,4 +75,48 @@ pub fn entry_at(file: &[u8], at: usize) -> Entry
         file::Found::Credential(c) => Entry::Credential(c),
         file::Found::End => Entry::End,
     }
+}
+
+// Refusals 1 to 8.
+fn open(file: &[u8]) -> file::Refusal
+    ensures { λ r. ⌜ r ≡ opened (now (file .entry)) ⌝ }
+{
+    let mut policy = policy::room();
+    let mut ends = ends::no_ends();
+    let summary = ends::survey(&mut policy, &mut ends, file);
+    file::Refusal {
+        number: summary.number,
+        place: summary.place,
+    }
+}
+
+fn found_at(file: &[u8], at: usize, number: u32) -> file::Found
+    ensures { λ r. ⌜ r ≡ foundAt (now (file .entry)) at number ⌝ }
+{
+    if number != 0 {
+        return file::Found::End;
+    }
+    file::read_credential(file, at)
+}
+
+fn place_after(file: &[u8], at: usize, number: u32) -> usize
+    ensures { λ r. ⌜ r ≡ placeAfter (now (file .entry)) at number ⌝ }
+{
+    match found_at(file, at, number) {
+        file::Found::Credential(_) => at + 1,
+        file::Found::End => at,
+    }
+}
+
+// The credential at a place of a file; the end also where the file is refused.
+fn nth(file: &[u8], at: usize) -> file::Found
+    ensures { λ r. ⌜ r ≡ nthOf (now (file .entry)) at ⌝ }
+{
+    let w = walk(file);
+    credential(Walker {
+        file: w.file,
+        at,
+        number: w.number,
+        place: w.place,
+    })
 }
