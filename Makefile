@@ -17,7 +17,7 @@ library := target/staticlib/librtt.a
 programs := target/bin/members target/bin/credentials target/bin/proof target/bin/ends_list
 installed := rtt-members rtt-credentials rtt-proof rtt-ends
 pages1 := $(installed:%=%.1)
-pages3 := rtt.3 rtt_complete.3 rtt_query.3 rtt_check.3
+pages3 := rtt.3 rtt_complete.3 rtt_query.3 rtt_check.3 rtt_ends.3 rtt_intervals.3
 pages5 := rtt.5
 sources := crates.txt $(shell find crates -name '*.rt' -o -name '*.antt')
 

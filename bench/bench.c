@@ -7,8 +7,8 @@
      bench FILE time QUESTION SECONDS CALL WHOSE     reply and least time of repeated calls, in microseconds
      bench FILE once QUESTION CALL WHOSE ...         each call once, in `measured`
 
-   QUESTION is ROLE SET MINUTE ABSENT; CALL is complete, query, absent (a query of the absent set) or check; WHOSE is
-   rtt, plain or grouped. */
+   QUESTION is ROLE SET MINUTE ABSENT; CALL is complete, query, absent (a query of the absent set), check, ends or
+   intervals (of every other span); WHOSE is rtt, plain or grouped. */
 #include <stdio.h>
 #include <stdlib.h>
 #include <string.h>
@@ -17,7 +17,7 @@
 #include "plain.h"
 #include "rtt.h"
 
-enum { BYTES = 4 * RTT_ENTRIES };
+enum { BYTES = 4 * RTT_ENTRIES, LIST = 256 };
 
 struct lists {
     uint8_t a[BYTES], b[BYTES], c[BYTES], d[BYTES], wide[2 * BYTES];
@@ -35,16 +35,20 @@ typedef uint64_t querying(const uint8_t *, size_t, uint32_t, uint32_t, uint32_t,
                           uint8_t *, size_t, uint8_t *, size_t);
 typedef uint64_t checking(const uint8_t *, size_t, uint32_t, uint32_t, uint32_t, const uint8_t *, size_t, const uint8_t *,
                           size_t, const uint8_t *, size_t, const uint8_t *, size_t, uint64_t);
+typedef uint64_t listing_ends(const uint8_t *, size_t, uint8_t *, size_t);
+typedef uint64_t listing_intervals(const uint8_t *, size_t, uint64_t, uint8_t *, size_t);
 
 static struct one {
     const char *name;
     completing *complete;
     querying *query;
     checking *check;
+    listing_ends *ends;
+    listing_intervals *intervals;
 } ones[] = {
-    {"rtt", rtt_complete, rtt_query, rtt_check},
-    {"plain", plain_complete, plain_query, plain_check},
-    {"grouped", grouped_complete, grouped_query, plain_check},
+    {"rtt", rtt_complete, rtt_query, rtt_check, rtt_ends, rtt_intervals},
+    {"plain", plain_complete, plain_query, plain_check, plain_ends, plain_intervals},
+    {"grouped", grouped_complete, grouped_query, plain_check, plain_ends, plain_intervals},
 };
 
 static uint64_t complete(const struct one *o, struct lists *l, size_t entries)
@@ -64,7 +68,7 @@ static uint64_t check(const struct one *o, const struct lists *l, uint32_t role,
 
 /* What is timed and counted; a check is lent the proof that stands in the lists. */
 static struct lists work;
-static uint64_t steps;
+static uint64_t steps, alternate;
 
 __attribute__((noinline)) uint64_t measured(const struct one *o, int call)
 {
@@ -75,9 +79,21 @@ __attribute__((noinline)) uint64_t measured(const struct one *o, int call)
         return query(o, &work, asked.role, asked.set, asked.minute);
     case 'a':
         return query(o, &work, asked.role, asked.absent, asked.minute);
+    case 'e':
+        return o->ends(file, length, work.a, LIST);
+    case 'i':
+        return o->intervals(file, length, alternate, work.a, LIST);
     default:
         return check(o, &work, asked.role, asked.set, asked.minute, steps);
     }
+}
+
+/* The span number of all spans. */
+static uint64_t every_span(void)
+{
+    uint8_t ends[LIST];
+    uint64_t count = plain_ends(file, length, ends, sizeof ends);
+    return count < 2 || rtt_number(count) ? 0 : ~0ull >> (65 - count);
 }
 
 static const struct one *one_called(const char *name)
@@ -89,12 +105,14 @@ static const struct one *one_called(const char *name)
     exit(2);
 }
 
-/* First letters differ: complete, query, absent; check is 'k'. */
+/* First letters differ: complete, query, absent, ends, intervals; check is 'k'. */
 static int call_called(const char *name)
 {
     int call = strcmp(name, "check") ? name[0] : 'k';
     if (call == 'k')
         steps = rtt_steps(query(one_called("grouped"), &work, asked.role, asked.set, asked.minute));
+    if (call == 'i')
+        alternate = every_span() & 0x5555555555555555;
     return call;
 }
 
@@ -167,6 +185,25 @@ static void agree_querying(uint32_t role, uint32_t set, uint32_t minute)
     }
 }
 
+/* Of span numbers with gaps and without, and with a bit beyond the last span; in lists of the right length and of others. */
+static void agree_listing(void)
+{
+    uint64_t all = every_span();
+    uint64_t numbers[] = {0, all, all & 0x5555555555555555, all & 0x3333333333333333, all + 1, ~0ull};
+    size_t lengths[] = {LIST, LIST - 4, LIST + 1};
+    for (size_t k = 0; k < sizeof lengths / sizeof *lengths; k++)
+        for (size_t n = 0; n < 1 + sizeof numbers / sizeof *numbers; n++) {
+            uint64_t reply[2];
+            for (int i = 0; i < 2; i++) {
+                memset(had[i].a, 0x5A, sizeof had[i].a);
+                reply[i] = n == 0 ? ones[i].ends(file, length, had[i].a, lengths[k])
+                                  : ones[i].intervals(file, length, numbers[n - 1], had[i].a, lengths[k]);
+            }
+            same(reply[0] == reply[1], n == 0 ? "reply of the ends" : "reply of the intervals");
+            same(!memcmp(had[0].a, had[1].a, sizeof had[0].a), n == 0 ? "list of the ends" : "list of the intervals");
+        }
+}
+
 /* The deepest membership, an absent one, and memberships of the table, while there is time. */
 static void agree(void)
 {
@@ -174,6 +211,7 @@ static void agree(void)
     double start = now(), enough = 0.3;
     uint64_t count = agree_completing(RTT_ENTRIES);
     table = had[0];
+    agree_listing();
     agree_querying(asked.role, asked.set, asked.minute);
     agree_querying(asked.role, asked.absent, asked.minute);
     for (size_t entries = 1; entries < RTT_ENTRIES && now() - start < enough; entries += 1 + entries / 2)

@@ -24,6 +24,9 @@ uint64_t plain_check(const uint8_t *file, size_t length, uint32_t role, uint32_t
                      const uint8_t *second, size_t second_length, const uint8_t *sets, size_t sets_length,
                      uint64_t steps);
 
+uint64_t plain_ends(const uint8_t *file, size_t length, uint8_t *ends, size_t ends_length);
+uint64_t plain_intervals(const uint8_t *file, size_t length, uint64_t spans, uint8_t *bounds, size_t bounds_length);
+
 /* Role, set and minute of the membership with the highest least level; 0 where the file is refused or has none. */
 int plain_deepest(const uint8_t *file, size_t length, uint32_t *role, uint32_t *set, uint32_t *minute);
 

@@ -18,7 +18,7 @@ import files
 HERE = os.path.dirname(os.path.abspath(__file__))
 DIR, MODE = sys.argv[1:3]
 PROGRAM = f'{DIR}/bench'
-CALLS = 'complete', 'query', 'absent', 'check'
+CALLS = 'complete', 'query', 'absent', 'ends', 'intervals', 'check'
 SECOND = 1e6                # a call may take no longer, in microseconds
 MARGIN = 1.15               # of a limit over the ratio that was measured
 VALGRIND = shutil.which('valgrind')
@@ -104,7 +104,12 @@ def tabled(name, when):
 
 
 def yardsticks(call):
-    return ('grouped',) if call == 'check' else ('plain', 'grouped')
+    return ('grouped',) if call in ('check', 'ends', 'intervals') else ('plain', 'grouped')
+
+
+def calls_on(steps):
+    """Checking is last, and only where there is a proof."""
+    return CALLS if steps else CALLS[:-1]
 
 
 def measure(name):
@@ -113,7 +118,7 @@ def measure(name):
     r = {'level': level, 'steps': steps, 'time': {}, 'reply': {}}
     r['compared'] = int(run([PROGRAM, path(name), 'agree', *asked]))
     pairs = []
-    for call in CALLS[:4 if steps else 3]:
+    for call in calls_on(steps):
         for whose in ('rtt', *yardsticks(call)):
             t = timed(name, asked, call, whose, 0.2, 60)
             r['time'][f'{call} {whose}'] = t and t[1]
@@ -215,7 +220,9 @@ def tables(out):
             ('querying, hostile files, against the better', hostile, 'query', None, 2),
             ('querying an absent set, honest files, against plain', honest, 'absent', 'plain', 2),
             ('querying an absent set, hostile files, against the better', hostile, 'absent', None, 2),
-            ('checking, all files', list(every.values()), 'check', None, 1.5)):
+            ('checking, all files', list(every.values()), 'check', None, 1.5),
+            ('ends, all files', list(every.values()), 'ends', None, 2),
+            ('intervals, all files', list(every.values()), 'intervals', None, 2)):
         had = [(ratio(r, call, of)[0], n) for n, r in every.items() if r in rs and ratio(r, call, of)[0] is not None]
         over = [f'`{n}` {short(x)}' for x, n in had if x > goal]
         body.append([what, f'{short(min(had)[0])} to {short(max(had)[0])}', goal,
@@ -241,6 +248,12 @@ def tables(out):
         ['file', 'steps', 'library', 'plain', 'library / plain'],
         [[n, r['steps'], number(r['instructions'].get('check rtt')), number(r['instructions'].get('check grouped')),
           shown(ratio(r, 'check'))] for n, r in every.items() if r['steps']]))
+    part('Ends, and the intervals of every other span', 'Instructions of one call.')
+    text.append(rows(
+        ['file', 'ends', 'library', 'plain', 'library / plain', 'intervals', 'library', 'plain', 'library / plain'],
+        [[n, *[x for call in ('ends', 'intervals')
+               for x in (reply(r, call), *[number(r['instructions'].get(f'{call} {w}')) for w in ('rtt', 'grouped')], shown(ratio(r, call)))]]
+         for n, r in every.items()]))
     part('Checking by length of the proof', 'Proofs of memberships of `deep`, one call.')
     at = {int(k): v for k, v in out['lengths'].items()}
     body = []
@@ -297,9 +310,10 @@ def quick():
             allowed.setdefault(w[0], {})[w[1]] = float(w[2])
     bad, compared, held = [], 0, 0
     for name in (*files.HONEST, *files.HOSTILE):
+        print(f'bench: {name}', file=sys.stderr, flush=True)
         asked, _, steps = question(name)
         compared += int(run([PROGRAM, path(name), 'agree', *asked, 'grouped']))
-        for call in CALLS[:4 if steps else 3]:
+        for call in calls_on(steps):
             took = min(timed(name, asked, call, 'rtt', 0, None)[1] for _ in range(2))
             if took > SECOND:
                 bad.append(f'{call} {name}: {time(took)}')
@@ -320,7 +334,7 @@ def write_limits():
     lines = ['# Instructions of the library over those of the grouped yardstick, at most; written by `bench/run limits`.']
     for name in (*files.HONEST, *files.HOSTILE):
         asked, _, steps = question(name)
-        calls = [c for c in CALLS[:4 if steps else 3] if all(timed(name, asked, c, w, 0.05, 60)[1] < 4e3 for w in ('rtt', 'grouped'))]
+        calls = [c for c in calls_on(steps) if all(timed(name, asked, c, w, 0.05, 60)[1] < 4e3 for w in ('rtt', 'grouped'))]
         lines += [f'{name} {c} {x * MARGIN:.2f}' for c, x in ratios(name, asked, calls).items()]
     with open(f'{HERE}/limits', 'w') as f:
         f.write('\n'.join(lines) + '\n')

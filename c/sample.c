@@ -1,5 +1,5 @@
-/* Completes document 01's set P, asks for a proof of case K1 (0.1 {1,2} at minute 15) and checks it; then K3 (at minute 18), which
-   has none, and a file that lacks a byte. Prints what it got. */
+/* Lists the ends of document 01's set P and completes it, with the minutes of each membership; asks for a proof of case K1 (0.1 {1,2} at minute 15)
+   and checks it; then K3 (at minute 18), which has none, and a file that lacks a byte. Prints what it got. */
 #include <inttypes.h>
 #include <stdio.h>
 
@@ -8,21 +8,35 @@
 
 enum { L = 8 };
 
-/* Entry i of a list of entries of `width` bytes, lowest byte first. */
-static uint64_t entry(const uint8_t *list, size_t i, size_t width)
-{
-    uint64_t value = 0;
-    for (size_t k = width; k > 0; k--)
-        value = value * 256 + list[i * width + k - 1];
-    return value;
-}
-
 static int refused(const char *call, uint64_t reply)
 {
-    if (rtt_number(reply) == 0)
+    if (rtt_ok(reply))
         return 0;
-    printf("%s: refused %" PRIu32 " %" PRIu32 "\n", call, rtt_number(reply), rtt_place(reply));
+    printf("%s: refused %" PRIu32 " %" PRIu32 ", %s\n", call, rtt_number(reply), rtt_place(reply), rtt_refusal_text(rtt_number(reply)));
     return 1;
+}
+
+static void ends(const uint8_t *file, size_t length)
+{
+    uint8_t list[RTT_ENDS_BYTES];
+    uint64_t count = rtt_ends(file, length, list, sizeof list);
+    if (refused("ends", count))
+        return;
+    printf("ends:");
+    for (size_t i = 0; i < count; i++)
+        printf(" %" PRIu32, rtt_entry32(list, i));
+    printf("\n");
+}
+
+static void minutes(const uint8_t *file, size_t length, uint64_t spans)
+{
+    uint8_t bounds[RTT_BOUNDS_BYTES];
+    uint64_t count = rtt_intervals(file, length, spans, bounds, sizeof bounds);
+    if (refused("intervals", count))
+        return;
+    for (size_t i = 0; i < count; i++)
+        printf(" %" PRIu32 "..%" PRIu32, rtt_entry32(bounds, 2 * i), rtt_entry32(bounds, 2 * i + 1));
+    printf("\n");
 }
 
 static void complete(const uint8_t *file, size_t length)
@@ -32,9 +46,12 @@ static void complete(const uint8_t *file, size_t length)
     if (refused("complete", count))
         return;
     printf("complete: %" PRIu64 " memberships\n", count);
-    for (size_t i = 0; i < count; i++)
-        printf("  %" PRIu64 ".%" PRIu64 " set %" PRIu64 " spans %" PRIu64 "\n", entry(roles, i, 4) / 32, entry(roles, i, 4) % 32,
-               entry(sets, i, 4), entry(spans, i, 8));
+    for (size_t i = 0; i < count; i++) {
+        uint32_t role = rtt_entry32(roles, i);
+        printf("  %" PRIu32 ".%" PRIu32 " set %" PRIu32 " spans %" PRIu64 " minutes", role / 32, role % 32, rtt_entry32(sets, i),
+               rtt_entry64(spans, i));
+        minutes(file, length, rtt_entry64(spans, i));
+    }
 }
 
 static void prove(const uint8_t *file, size_t length, uint32_t role, uint32_t set, uint32_t minute)
@@ -46,8 +63,8 @@ static void prove(const uint8_t *file, size_t length, uint32_t role, uint32_t se
         return;
     printf("query: %" PRIu32 " steps of level %" PRIu32 "\n", rtt_steps(got), rtt_level(got));
     for (size_t i = 0; i < rtt_steps(got); i++)
-        printf("  %zu: credential %" PRIu64 " steps %" PRIu64 " %" PRIu64 " set %" PRIu64 "\n", i, entry(credential, i, 4),
-               entry(first, i, 4), entry(second, i, 4), entry(sets, i, 4));
+        printf("  %zu: credential %" PRIu32 " steps %" PRIu32 " %" PRIu32 " set %" PRIu32 "\n", i, rtt_entry32(credential, i),
+               rtt_entry32(first, i), rtt_entry32(second, i), rtt_entry32(sets, i));
     uint64_t level = rtt_check(file, length, role, set, minute, credential, sizeof credential, first, sizeof first, second,
                                sizeof second, sets, sizeof sets, rtt_steps(got));
     if (!refused("check", level))
@@ -56,9 +73,10 @@ static void prove(const uint8_t *file, size_t length, uint32_t role, uint32_t se
 
 int main(void)
 {
+    ends(P, sizeof P);
     complete(P, sizeof P);
-    prove(P, sizeof P, 0 * 32 + 1, 1u << 1 | 1u << 2, 15);
-    prove(P, sizeof P, 0 * 32 + 1, 1u << 1 | 1u << 2, 18);
+    prove(P, sizeof P, rtt_role(0, 1), 1u << 1 | 1u << 2, 15);
+    prove(P, sizeof P, rtt_role(0, 1), 1u << 1 | 1u << 2, 18);
     complete(P, sizeof P - 1);
     return 0;
 }

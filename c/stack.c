@@ -1,8 +1,9 @@
 /* Measures the stack that each call takes with lists of 1,024 entries.
 
-   Arguments: the bytes of stack that include/rtt.h gives for completing, querying and checking; then for each case FILE
-   ROLE SET MINUTE and the refusal numbers that completing and querying answer, 0 where they refuse nothing. Where
-   querying hands out a proof, it is checked.
+   Arguments: the bytes of stack that include/rtt.h gives for completing, querying, checking, the ends and the intervals;
+   then for each case FILE ROLE SET MINUTE and the refusal numbers that completing and querying answer, 0 where they refuse
+   nothing. Where querying hands out a proof, it is checked. The intervals are those of all spans, and of a number with a
+   bit beyond them.
 
    Each call runs on a stack of its own that was filled with a pattern. Prints the most bytes that each call wrote there,
    and what the header gives. Fails where that is less, where it is more than RTT_STACK, and where another number is
@@ -16,9 +17,9 @@
 #include "rtt.h"
 
 enum { ROOM = 1 << 20, PATTERN = 0xa5 };
-enum { COMPLETE, QUERY, CHECK, CALLS };
+enum { COMPLETE, QUERY, CHECK, ENDS, INTERVALS, CALLS };
 
-static const char *const names[CALLS] = {"complete", "query", "check"};
+static const char *const names[CALLS] = {"complete", "query", "check", "ends", "intervals"};
 static size_t most[CALLS];
 
 static uint8_t room[ROOM] __attribute__((aligned(64)));
@@ -28,7 +29,8 @@ static uint8_t file[4103];
 static size_t length;
 static uint32_t role, set, minute, steps;
 static uint8_t a[4 * RTT_ENTRIES], b[4 * RTT_ENTRIES], c[4 * RTT_ENTRIES], d[4 * RTT_ENTRIES], s[8 * RTT_ENTRIES];
-static uint64_t reply;
+static uint8_t list[256];
+static uint64_t spans, reply;
 
 static void nothing(void) {}
 
@@ -45,6 +47,16 @@ static void query(void)
 static void check(void)
 {
     reply = rtt_check(file, length, role, set, minute, a, sizeof a, b, sizeof b, c, sizeof c, d, sizeof d, steps);
+}
+
+static void ends(void)
+{
+    reply = rtt_ends(file, length, list, sizeof list);
+}
+
+static void intervals(void)
+{
+    reply = rtt_intervals(file, length, spans, list, sizeof list);
 }
 
 static size_t used_by(void (*call)(void))
@@ -95,13 +107,19 @@ static int measure_case(char **argument)
     steps = rtt_steps(reply);
     if (rtt_number(reply) == 0)
         bad |= measure(CHECK, check, 0);
+    bad |= measure(ENDS, ends, 0);
+    uint64_t beyond = (uint64_t)1 << (reply ? reply - 1 : 0);
+    spans = beyond - 1;
+    bad |= measure(INTERVALS, intervals, 0);
+    spans = beyond;
+    bad |= measure(INTERVALS, intervals, 11);
     return bad;
 }
 
 int main(int count, char **argument)
 {
-    int bad = count < 10 || (count - 4) % 6 != 0;
-    for (int i = 4; i + 5 < count; i += 6)
+    int bad = count < 12 || (count - 6) % 6 != 0;
+    for (int i = 6; i + 5 < count; i += 6)
         bad |= measure_case(argument + i);
     if (bad)
         return 1;

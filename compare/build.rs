@@ -1,9 +1,9 @@
-//! Links the library if its archive is there, and says which of its three functions it has.
+//! Links the library if its archive is there, and says which of its functions it has.
 //! RTT_LIBRARY names the archive; otherwise it is ../target/staticlib/librtt.a.
 
 use std::path::{Path, PathBuf};
 
-const FUNCTIONS: [&str; 3] = ["rtt_complete", "rtt_query", "rtt_check"];
+const FUNCTIONS: [&str; 5] = ["rtt_complete", "rtt_query", "rtt_check", "rtt_ends", "rtt_intervals"];
 
 fn main() {
     let named = std::env::var("RTT_LIBRARY").map(PathBuf::from);

@@ -1,14 +1,26 @@
 /* Who may release this sheet, and when: RT^T_+ credentials with periods.
 
-   Three calls. Each takes the bytes of a credentials file (rtt(5)) and lists that the
-   caller lends, and replies with one 64-bit number. What a call replies and every byte that it leaves are proved, for
-   every input, against specs/Interface.antt of the crates complete_bytes, query_bytes and check_bytes.
+   Five calls. Each takes the bytes of a credentials file (rtt(5)) and lists that the caller lends, and replies with one
+   64-bit number. What a call replies and every byte that it leaves are proved, for every input that keeps to "What the
+   caller owes" below, against the definitions that the contracts in crates/rtt cite. The inline functions after the
+   calls are plain C, and tested; rtt_may_release, the last of them, is all that a release needs.
 
    Lists
 
-   A list is lent as bytes, lowest byte first: 4 bytes an entry, 8 in `spans`. All lists of one call have the same
-   number L of entries, 1 to 1,024. Every length counts bytes: 4 * L, and 8 * L for `spans`. A role A.r is the number
-   A * 32 + r; a set of entities has bit e for entity e; minutes are 0 to 4,294,967,294.
+   A list is lent as bytes, lowest byte first: 4 bytes an entry, 8 in `spans`. rtt_entry32 and rtt_entry64 read entries.
+   Every length counts bytes. All lists of one rtt_complete, rtt_query or rtt_check have the same number L of entries,
+   1 to 1,024: 4 * L bytes, and 8 * L for `spans`. The list of rtt_ends and that of rtt_intervals have 256 bytes, no
+   more and no less. A role A.r is the number A * 32 + r, which rtt_role makes; a set of entities has bit e for entity e;
+   minutes are 0 to 4,294,967,294, and rtt(5) recommends Unix time / 60.
+
+   Signers
+
+   A set is exactly the people who sign. Where two reviewers together may release, and Ada and Ben are reviewers, the set
+   {Ada, Ben} may. {Ada, Ben, Cara} is another set, and refused with 13 unless the credentials give that very set too. So
+   where there are more signatures than needed, the caller decides which signers it takes for the release, and asks for
+   exactly that set: for instance for the people whom the release form names, once all of them have signed, whoever else
+   signed too. If any of the signers may count, it asks for each subset of them that should be allowed to count, one call
+   for each, until one is a success. No call tries subsets by itself.
 
    Steps
 
@@ -27,13 +39,27 @@
    Ends and spans
 
    The ends of a file are the distinct from and to values of its periods, ascending; end 0 is the lowest. Span i runs
-   from end i up to, not including, end i + 1.
+   from end i up to, not including, end i + 1. So n ends make n - 1 spans, and no ends make none. rtt_ends writes the
+   ends, rtt_intervals turns spans into minutes.
 
    Replies
 
-   A reply below 2^32 is a success. Any other is a refusal: rtt_number(reply) is its number, rtt_place(reply) its place.
+   A reply below 2^32 is a success, and rtt_ok(reply) is 1. Any other is a refusal, and rtt_ok(reply) is 0;
+   rtt_number(reply) is its number, rtt_place(reply) its place. Two ways to ask look right, give no warning with
+   -Wall -Wextra, and release what was refused:
+
+     if (rtt_check(..))           true for every refusal, for a refusal is not 0
+     int level = rtt_check(..);   cuts off the number of a refusal: 15 at step 2 becomes 2, the level of a true proof;
+                                  -Wconversion warns of this one
+
+   Keep the reply in a uint64_t, and ask rtt_ok before anything else is read from it:
+
+     uint64_t reply = rtt_check(..);
+     if (!rtt_ok(reply))
+         refuse, and say rtt_refusal_text(rtt_number(reply));
+
    The first condition that holds, from top to bottom, is the refusal; credentials are tested in file order, each
-   through 4 to 7. Places count from 0.
+   through 4 to 7. Places count from 0. enum rtt_refusal has a name for each number.
 
      number  condition                                             place       given by
         1    the file has under 6 bytes                            0           all
@@ -45,10 +71,12 @@
         6    an unused byte or byte 7 is not zero                  credential  all
         7    from is not below to                                  credential  all
         8    the periods have over 64 ends                         0           all
-        9    a list is not whole entries, the lists are not of     0           all
+        9    a list is not whole entries, the lists are not of     0           complete, query, check
              one length, or L is outside 1 to 1,024
+        9    the list has not 256 bytes                            0           ends, intervals
        11    the role's issuer or name is out of range, or the     0           query, check
              set is empty or has an entity not below E
+       11    `spans` has a bit beyond the last span                0           intervals
        12    the minute is 4,294,967,295                           0           query, check
        10    there are more than L memberships: over all minutes   0           complete, query
              (complete), at that minute (query)
@@ -81,20 +109,55 @@
 extern "C" {
 #endif
 
-/* The version of this interface; the pkg-config file and the manual pages take it from here. */
-#define RTT_VERSION "1.0.2"
+/* The version of this interface; the pkg-config file and the manual pages take it from here. The number is
+   major * 10,000 + minor * 100 + patch. */
+#define RTT_VERSION "1.1.0"
+#define RTT_VERSION_NUMBER 10100
 
 /* Bytes of stack that are enough for any call, beside what the caller itself uses. Measured, no call takes more than
 
-     rtt_complete  81,000 bytes
-     rtt_query     81,000 bytes
-     rtt_check     30,000 bytes
+     rtt_complete   81,000 bytes
+     rtt_query      81,000 bytes
+     rtt_check      30,000 bytes
+     rtt_ends        5,000 bytes
+     rtt_intervals   5,000 bytes
 
-   These are measured, and rounded up to the next thousand. */
+   which is rounded up to the next thousand. */
 #define RTT_STACK 81920
 
 /* The most entries of a list. */
 #define RTT_ENTRIES 1024
+
+/* The bytes of the list of rtt_ends, 64 entries of 4, and of the list of rtt_intervals, 32 pairs of two times 4. */
+#define RTT_ENDS_BYTES 256
+#define RTT_BOUNDS_BYTES 256
+
+/* gcc and clang warn where the result of a function that is marked so is not used. */
+#ifdef __GNUC__
+#define RTT_MUST_USE __attribute__((warn_unused_result))
+#else
+#define RTT_MUST_USE
+#endif
+
+/* The numbers of the refusals; the table under "Replies" has the conditions. */
+enum rtt_refusal {
+    RTT_FILE_TOO_SHORT = 1,
+    RTT_SIZES_OUT_OF_RANGE = 2,
+    RTT_WRONG_FILE_LENGTH = 3,
+    RTT_UNKNOWN_KIND = 4,
+    RTT_CREDENTIAL_OUT_OF_RANGE = 5,
+    RTT_BYTE_NOT_ZERO = 6,
+    RTT_EMPTY_PERIOD = 7,
+    RTT_TOO_MANY_ENDS = 8,
+    RTT_WRONG_LISTS = 9,
+    RTT_TOO_MANY_MEMBERSHIPS = 10,
+    RTT_REQUEST_OUT_OF_RANGE = 11,
+    RTT_NOT_A_MINUTE = 12,
+    RTT_NO_PROOF = 13,
+    RTT_WRONG_STEP_COUNT = 14,
+    RTT_WRONG_STEP = 15,
+    RTT_OTHER_MEMBERSHIP = 16
+};
 
 /* Completes the table of the file: every membership that is valid at one minute or more, with all spans in which it is.
 
@@ -105,6 +168,7 @@ extern "C" {
 
    Returns the count of memberships. Entry i of the lists is the i-th membership, ascending by role, then by set; every
    entry after the last is zero. Refuses with 1 to 10.  */
+RTT_MUST_USE
 uint64_t rtt_complete(const uint8_t *file, size_t file_length,
                       uint8_t *roles, size_t roles_length,
                       uint8_t *sets, size_t sets_length,
@@ -119,6 +183,7 @@ uint64_t rtt_complete(const uint8_t *file, size_t file_length,
    Returns steps + level * 65,536 (rtt_steps, rtt_level). Entry i is step i; the last step shows the queried membership;
    no membership is shown twice, and every step is one that the last rests on; every entry after the last is zero.
    Refuses with 1 to 9, 11, 12, 10 and 13.  */
+RTT_MUST_USE
 uint64_t rtt_query(const uint8_t *file, size_t file_length,
                    uint32_t role, uint32_t set, uint32_t minute,
                    uint8_t *credential, size_t credential_length,
@@ -134,7 +199,9 @@ uint64_t rtt_query(const uint8_t *file, size_t file_length,
    credential, first, second, sets   4 bytes an entry, read: the words of the proof's steps
    steps                             how many steps the proof has, 1 to L; further entries may hold anything
 
-   Returns the proof's level. Refuses with 1 to 9, 11, 12 and 14 to 16.  */
+   Returns the proof's level as it is, without steps: rtt_level is not for this reply. Refuses with 1 to 9, 11, 12 and 14
+   to 16.  */
+RTT_MUST_USE
 uint64_t rtt_check(const uint8_t *file, size_t file_length,
                    uint32_t role, uint32_t set, uint32_t minute,
                    const uint8_t *credential, size_t credential_length,
@@ -143,27 +210,103 @@ uint64_t rtt_check(const uint8_t *file, size_t file_length,
                    const uint8_t *sets, size_t sets_length,
                    uint64_t steps);
 
-/* A reply taken apart. rtt_number is 0 for a success. rtt_place is the place of a refusal, where rtt_number is not 0;
-   rtt_steps and rtt_level are those of a query's proof, where rtt_number is 0. Otherwise these three mean nothing. */
-static inline uint32_t rtt_number(uint64_t reply) { return (uint32_t)(reply >> 32); }
-static inline uint32_t rtt_place(uint64_t reply) { return (uint32_t)reply; }
-static inline uint32_t rtt_steps(uint64_t reply) { return (uint32_t)reply & 65535; }
-static inline uint32_t rtt_level(uint64_t reply) { return (uint32_t)reply >> 16; }
+/* Lists the ends of the file.
 
-/* Example: may this set of people release the sheet at this minute? A proof is asked for, and checked once more.
-   The four lists take 16,384 bytes of the function's own stack, beside the RTT_STACK that its calls may take.
+   file   the bytes of a credentials file, read
+   ends   RTT_ENDS_BYTES bytes, 4 an entry, written
 
-     static int may_release(const uint8_t *file, size_t length, uint32_t role, uint32_t set, uint32_t minute)
-     {
-         uint8_t credential[4 * RTT_ENTRIES], first[4 * RTT_ENTRIES], second[4 * RTT_ENTRIES], sets[4 * RTT_ENTRIES];
-         uint64_t got = rtt_query(file, length, role, set, minute, credential, sizeof credential, first, sizeof first,
-                                  second, sizeof second, sets, sizeof sets);
-         if (rtt_number(got) != 0)
-             return 0;
-         return rtt_check(file, length, role, set, minute, credential, sizeof credential, first, sizeof first,
-                          second, sizeof second, sets, sizeof sets, rtt_steps(got)) == rtt_level(got);
-     }
-*/
+   Returns the count of ends, at most 64. Entry i is end i, ascending; every entry after the last is zero. Refuses with
+   1 to 9.  */
+RTT_MUST_USE
+uint64_t rtt_ends(const uint8_t *file, size_t file_length,
+                  uint8_t *ends, size_t ends_length);
+
+/* Turns spans of the file, such as those of a membership, into the intervals of minutes that they cover.
+
+   file     the bytes of a credentials file, read
+   spans    bit i stands for span i, as in the list that rtt_complete writes
+   bounds   RTT_BOUNDS_BYTES bytes, 4 an entry, written: entries 2 * i and 2 * i + 1 are from and to of interval i,
+            which covers minute m when from <= m and m < to
+
+   Returns the count of intervals, at most 32. They ascend and never touch, since spans that touch are joined; every
+   entry after the last interval is zero. Refuses with 1 to 9 and 11.  */
+RTT_MUST_USE
+uint64_t rtt_intervals(const uint8_t *file, size_t file_length,
+                       uint64_t spans,
+                       uint8_t *bounds, size_t bounds_length);
+
+/* A reply taken apart. rtt_ok is 1 for a success and 0 for a refusal. rtt_number and rtt_place are those of a refusal,
+   and 0 for a success. rtt_steps and rtt_level are for the reply of rtt_query alone: those of its proof, and 0 for a
+   refusal. */
+RTT_MUST_USE static inline int rtt_ok(uint64_t reply) { return reply >> 32 == 0; }
+RTT_MUST_USE static inline uint32_t rtt_number(uint64_t reply) { return (uint32_t)(reply >> 32); }
+RTT_MUST_USE static inline uint32_t rtt_place(uint64_t reply) { return rtt_ok(reply) ? 0 : (uint32_t)reply; }
+RTT_MUST_USE static inline uint32_t rtt_steps(uint64_t reply) { return rtt_ok(reply) ? (uint32_t)reply & 65535 : 0; }
+RTT_MUST_USE static inline uint32_t rtt_level(uint64_t reply) { return rtt_ok(reply) ? (uint32_t)reply >> 16 : 0; }
+
+/* A refusal's number, which is rtt_number(reply), in words: a constant string. 0 is "no refusal"; any number above 16,
+   such as the whole reply of a refusal, is "not the number of a refusal". */
+static inline const char *rtt_refusal_text(uint64_t number)
+{
+    switch (number) {
+    case 0: return "no refusal";
+    case RTT_FILE_TOO_SHORT: return "the file has under 6 bytes";
+    case RTT_SIZES_OUT_OF_RANGE: return "the file's number of entities, role names or credentials is out of range";
+    case RTT_WRONG_FILE_LENGTH: return "the file's length does not fit its number of credentials";
+    case RTT_UNKNOWN_KIND: return "a credential's kind is above 5";
+    case RTT_CREDENTIAL_OUT_OF_RANGE: return "a credential has an entity or a role name that is out of range";
+    case RTT_BYTE_NOT_ZERO: return "a credential's unused byte is not zero";
+    case RTT_EMPTY_PERIOD: return "a credential's period does not begin before it ends";
+    case RTT_TOO_MANY_ENDS: return "the periods have over 64 ends";
+    case RTT_WRONG_LISTS: return "a lent list has a wrong length";
+    case RTT_TOO_MANY_MEMBERSHIPS: return "there are more memberships than the lists have entries";
+    case RTT_REQUEST_OUT_OF_RANGE: return "the role, the set or the spans are not within the file's numbers";
+    case RTT_NOT_A_MINUTE: return "4294967295 is not a minute";
+    case RTT_NO_PROOF: return "there is no proof";
+    case RTT_WRONG_STEP_COUNT: return "the step count is 0 or more than the lists have entries";
+    case RTT_WRONG_STEP: return "a step breaks the rules for a proof step";
+    case RTT_OTHER_MEMBERSHIP: return "the last step is not the queried membership";
+    default: return "not the number of a refusal";
+    }
+}
+
+/* The role issuer.name as a number, issuer * 32 + name. If either is above 31 it is 4,294,967,295, a role of no file,
+   which rtt_query and rtt_check refuse with 11: the sum alone would turn 0.34 into 1.2. */
+static inline uint32_t rtt_role(uint64_t issuer, uint64_t name)
+{
+    return issuer < 32 && name < 32 ? (uint32_t)(issuer * 32 + name) : 4294967295u;
+}
+
+/* Entry i of a list, counted in entries from 0: of 4 bytes, and of 8 bytes as in `spans`. */
+static inline uint32_t rtt_entry32(const uint8_t *list, size_t i)
+{
+    const uint8_t *entry = list + 4 * i;
+    return entry[0] | (uint32_t)entry[1] << 8 | (uint32_t)entry[2] << 16 | (uint32_t)entry[3] << 24;
+}
+
+static inline uint64_t rtt_entry64(const uint8_t *list, size_t i)
+{
+    return rtt_entry32(list, 2 * i) | (uint64_t)rtt_entry32(list, 2 * i + 1) << 32;
+}
+
+/* May this set of people release the sheet at this minute? 1 only if there is a proof that the set is a member of the
+   role at the minute, and the check of that proof, for the same file, role, set and minute, gives the query's level.
+   Else 0, also where the file or the request is refused, and where there are more than 1,024 memberships at that minute
+   (10); rtt_query says why. The result is no reply, and rtt_ok is not for it.
+
+   Its four lists take 4 * 4,096 = 16,384 bytes of its own stack, beside the RTT_STACK that its calls may take. */
+RTT_MUST_USE
+static inline int rtt_may_release(const uint8_t *file, size_t file_length, uint32_t role, uint32_t set, uint32_t minute)
+{
+    uint8_t credential[4 * RTT_ENTRIES], first[4 * RTT_ENTRIES], second[4 * RTT_ENTRIES], sets[4 * RTT_ENTRIES];
+    uint64_t checked, got = rtt_query(file, file_length, role, set, minute, credential, sizeof credential,
+                                      first, sizeof first, second, sizeof second, sets, sizeof sets);
+    if (!rtt_ok(got))
+        return 0;
+    checked = rtt_check(file, file_length, role, set, minute, credential, sizeof credential,
+                        first, sizeof first, second, sizeof second, sets, sizeof sets, rtt_steps(got));
+    return rtt_ok(checked) && checked == rtt_level(got);
+}
 
 #ifdef __cplusplus
 }

@@ -1,8 +1,8 @@
-//! The three calls as they cross the C interface, by the library and by the second implementation.
+//! The calls as they cross the C interface, by the library and by the second implementation.
 
 use crate::reference::known::{steps, After, Known, Question};
 use crate::reference::meaning::Members;
-use crate::reference::{querying, Rules};
+use crate::reference::{querying, Refusal, Rules};
 
 /// A lent slice: pointer and length in bytes.
 #[derive(Clone, Copy)]
@@ -42,16 +42,20 @@ pub enum Call {
     Complete,
     Query,
     Check,
+    Ends,
+    Intervals,
 }
 
 impl Call {
-    pub const ALL: [Call; 3] = [Call::Complete, Call::Query, Call::Check];
+    pub const ALL: [Call; 5] = [Call::Complete, Call::Query, Call::Check, Call::Ends, Call::Intervals];
 
     pub fn name(self) -> &'static str {
         match self {
             Call::Complete => "rtt_complete",
             Call::Query => "rtt_query",
             Call::Check => "rtt_check",
+            Call::Ends => "rtt_ends",
+            Call::Intervals => "rtt_intervals",
         }
     }
 }
@@ -61,6 +65,8 @@ pub trait Calls {
     fn complete(&self, file: Slice, lists: [Slice; 3]) -> u64;
     fn query(&self, file: Slice, q: Question, lists: [Slice; 4]) -> u64;
     fn check(&self, file: Slice, q: Question, lists: [Slice; 4], count: u64) -> u64;
+    fn ends(&self, file: Slice, list: Slice) -> u64;
+    fn intervals(&self, file: Slice, spans: u64, list: Slice) -> u64;
 }
 
 /// The functions of librtt.a; those that the archive lacks must not be called.
@@ -110,6 +116,8 @@ mod c {
             sets_length: usize,
             steps: u64,
         ) -> u64;
+        pub fn rtt_ends(file: *const u8, file_length: usize, ends: *mut u8, ends_length: usize) -> u64;
+        pub fn rtt_intervals(file: *const u8, file_length: usize, spans: u64, bounds: *mut u8, bounds_length: usize) -> u64;
     }
 }
 
@@ -120,6 +128,8 @@ impl Calls for Library {
             Call::Complete => cfg!(rtt_complete),
             Call::Query => cfg!(rtt_query),
             Call::Check => cfg!(rtt_check),
+            Call::Ends => cfg!(rtt_ends),
+            Call::Intervals => cfg!(rtt_intervals),
         }
     }
 
@@ -150,6 +160,22 @@ impl Calls for Library {
             )
         };
         #[cfg(not(rtt_check))]
+        unreachable!("not in the archive")
+    }
+
+    fn ends(&self, f: Slice, list: Slice) -> u64 {
+        #[cfg(rtt_ends)]
+        // SAFETY: as for completing.
+        return unsafe { c::rtt_ends(f.start, f.length, list.start, list.length) };
+        #[cfg(not(rtt_ends))]
+        unreachable!("not in the archive")
+    }
+
+    fn intervals(&self, f: Slice, spans: u64, list: Slice) -> u64 {
+        #[cfg(rtt_intervals)]
+        // SAFETY: as for completing.
+        return unsafe { c::rtt_intervals(f.start, f.length, spans, list.start, list.length) };
+        #[cfg(not(rtt_intervals))]
         unreachable!("not in the archive")
     }
 }
@@ -199,6 +225,25 @@ impl Calls for Second {
             steps(&[&bytes[0], &bytes[1], &bytes[2], &bytes[3]], count)
         };
         Known::new(self.rules, &file.all()).check(q, lists.map(|list| list.length), count, first)
+    }
+
+    fn ends(&self, file: Slice, list: Slice) -> u64 {
+        written(Known::new(self.rules, &file.all()).ends(list.length), list)
+    }
+
+    fn intervals(&self, file: Slice, spans: u64, list: Slice) -> u64 {
+        written(Known::new(self.rules, &file.all()).intervals(spans, list.length), list)
+    }
+}
+
+/// The reply, with the list as it says.
+fn written(answer: Result<(u64, Vec<u8>), Refusal>, list: Slice) -> u64 {
+    match answer {
+        Ok((reply, bytes)) => {
+            list.write(&bytes);
+            reply
+        }
+        Err(refusal) => refusal.reply(),
     }
 }
 

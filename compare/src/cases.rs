@@ -3,10 +3,13 @@
 use crate::calls::Call;
 use crate::explore::{completed, handed_out, queried};
 use crate::files::{Draft, Period};
+use crate::input::{Ends, Intervals};
 use crate::judge::{Compared, Comparison, Failure};
 use crate::random::Random;
-use crate::reference::known::Question;
+use crate::reference::ends::{listed, BYTES};
+use crate::reference::known::{Known, Question};
 use crate::reference::reading::word;
+use crate::reference::{Refusal, RIGHT};
 
 /// The 54 bytes of set P as document 01 prints them.
 const P: &str = "030002000300 0000000100000000 0000000200000000 0500010000000000 0A00000014000000 0F0000001E000000 0000000012000000";
@@ -101,6 +104,31 @@ pub fn run(c: &mut Comparison, random: &mut Random, count: usize) -> Compared<()
                 handed_out(c, &file, &known, question, &given, 8, random.next())?;
             }
         }
+        ends_of_cases(c, random)?;
+    }
+    Ok(())
+}
+
+/// The ends that the document states, and the intervals of spans that `members` prints or a case has; 11 where there is no span.
+fn ends_of_cases(c: &mut Comparison, random: &Random) -> Compared<()> {
+    let random = &mut random.clone();
+    let p: &[(u64, &[u32])] = &[(14, &[10, 20]), (28, &[15, 30]), (4, &[15, 18]), (0, &[]), (21, &[0, 10, 15, 18, 20, 30])];
+    for (name, file, ends, intervals) in [
+        ("P, ends", set_p(), &[0, 10, 15, 18, 20, 30][..], p),
+        ("K8, ends", k8(), &[0, 5, 10], &[(3, &[0, 10]), (1, &[0, 5]), (2, &[5, 10])]),
+        ("K11, ends", Draft::new(1, 1).bytes(), &[], &[(0, &[])]),
+    ] {
+        let known = Known::new(RIGHT, &file);
+        expect(known.ends(BYTES) == Ok((ends.len() as u64, listed(ends.iter().copied()))), name)?;
+        c.ends(&known, Ends { file: &file, length: BYTES, fill: random.next() })?;
+        for &(spans, bounds) in intervals {
+            let stated = (bounds.len() as u64 / 2, listed(bounds.iter().copied()));
+            expect(known.intervals(spans, BYTES) == Ok(stated), name)?;
+            c.intervals(&known, Intervals { file: &file, spans, length: BYTES, fill: random.next() })?;
+        }
+        let beyond = 1 << ends.len().saturating_sub(1);
+        expect(known.intervals(beyond, BYTES) == Err(Refusal { number: 11, place: 0 }), name)?;
+        c.intervals(&known, Intervals { file: &file, spans: beyond, length: BYTES, fill: random.next() })?;
     }
     Ok(())
 }

@@ -1,11 +1,12 @@
 //! What is compared on one file.
 
 use crate::calls::Call;
-use crate::input::{words, Check, Complete, Input, Query};
+use crate::input::{words, Check, Complete, Ends, Input, Intervals, Query};
 use crate::judge::{Compared, Comparison, Proof, Written};
 use crate::proofs;
 use crate::random::Random;
 use crate::reference::checking::Step;
+use crate::reference::ends::BYTES;
 use crate::reference::known::{Known, Question};
 use crate::reference::meaning::Members;
 use crate::reference::reading::{word, File};
@@ -47,7 +48,38 @@ pub fn complete_all(c: &mut Comparison, random: &mut Random, file: &[u8], known:
     for length in lengths(random, count) {
         c.complete(known, completed(file, length, random.next()))?;
     }
-    c.complete(known, completed(file, MOST, random.next())).map(|_| ())
+    c.complete(known, completed(file, MOST, random.next()))?;
+    ends_and_intervals(c, random, file, known)
+}
+
+/// Lengths of the list that is lent for the ends and for the intervals.
+pub const LISTS: [usize; 7] = [0, 252, 255, BYTES, 257, 260, 1024];
+
+/// Span numbers: none, all, alternate, gaps, those of memberships, and with bits beyond the last span.
+fn span_numbers(random: &mut Random, known: &Known) -> Vec<u64> {
+    let spans = known.read.as_ref().map_or(0, |file| file.ends().len().saturating_sub(1));
+    let all = (1 << spans) - 1;
+    let some = [random.next(), random.next() | random.next(), random.next() & random.next(), !(1 << random.below(64)), 1 << random.below(64)];
+    let mut numbers: Vec<u64> = some.into_iter().chain([0, u64::MAX, 0x5555_5555_5555_5555]).map(|number| number & all).collect();
+    numbers.extend([1 << spans, all | 1 << spans, 1 << 63, u64::MAX, random.next(), 1 << random.within(spans, 63)]);
+    let table: Vec<u64> = known.table().into_iter().flat_map(|table| table.values()).copied().collect();
+    numbers.extend((0..table.len().min(3)).map(|_| random.choose(&table)));
+    numbers
+}
+
+/// The ends in lists of all these lengths; the intervals of span numbers, each in 256 bytes and in one of these lengths.
+/// The random numbers stay as they are.
+pub fn ends_and_intervals(c: &mut Comparison, random: &Random, file: &[u8], known: &Known) -> Compared<()> {
+    let random = &mut random.clone();
+    for length in LISTS {
+        c.ends(known, Ends { file, length, fill: random.next() })?;
+    }
+    for spans in span_numbers(random, known) {
+        for length in [BYTES, random.choose(&LISTS)] {
+            c.intervals(known, Intervals { file, spans, length, fill: random.next() })?;
+        }
+    }
+    Ok(())
 }
 
 /// A membership at the minute, or at another, or any.

@@ -34,10 +34,27 @@ pub struct Check<'a> {
 }
 
 #[derive(Clone, Debug)]
+pub struct Ends<'a> {
+    pub file: &'a [u8],
+    pub length: usize,
+    pub fill: u64,
+}
+
+#[derive(Clone, Debug)]
+pub struct Intervals<'a> {
+    pub file: &'a [u8],
+    pub spans: u64,
+    pub length: usize,
+    pub fill: u64,
+}
+
+#[derive(Clone, Debug)]
 pub enum Input<'a> {
     Complete(Complete<'a>),
     Query(Query<'a>),
     Check(Check<'a>),
+    Ends(Ends<'a>),
+    Intervals(Intervals<'a>),
 }
 
 impl Input<'_> {
@@ -46,6 +63,18 @@ impl Input<'_> {
             Input::Complete(_) => Call::Complete,
             Input::Query(_) => Call::Query,
             Input::Check(_) => Call::Check,
+            Input::Ends(_) => Call::Ends,
+            Input::Intervals(_) => Call::Intervals,
+        }
+    }
+
+    pub fn file(&self) -> &[u8] {
+        match self {
+            Input::Complete(i) => i.file,
+            Input::Query(i) => i.file,
+            Input::Check(i) => i.file,
+            Input::Ends(i) => i.file,
+            Input::Intervals(i) => i.file,
         }
     }
 }
@@ -75,6 +104,8 @@ impl fmt::Display for Input<'_> {
                 let lists = i.lists.iter().map(|bytes| hex(bytes)).collect::<Vec<_>>().join(",");
                 write!(f, " lists={lists} count={} hidden={} fill={}", i.count, i.hidden, i.fill)
             }
+            Input::Ends(i) => write!(f, "ends file={} lengths={} fill={}", hex(i.file), i.length, i.fill),
+            Input::Intervals(i) => write!(f, "intervals file={} spans={} lengths={} fill={}", hex(i.file), i.spans, i.length, i.fill),
         }
     }
 }
@@ -116,6 +147,8 @@ impl Words<'_> {
                 hidden: self.value("hidden")?.parse().ok()?,
                 fill,
             }),
+            "ends" => Input::Ends(Ends { file, length: lengths.parse().ok()?, fill }),
+            "intervals" => Input::Intervals(Intervals { file, spans: self.value("spans")?.parse().ok()?, length: lengths.parse().ok()?, fill }),
             _ => return None,
         })
     }

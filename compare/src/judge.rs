@@ -1,13 +1,13 @@
 //! Holds the calls of one implementation, input by input, against what the second implementation says.
 
 use crate::calls::{Call, Calls, Slice};
-use crate::input::{words, Check, Complete, Input, Query};
+use crate::input::{words, Check, Complete, Ends, Input, Intervals, Query};
 use crate::lent::Lent;
 use crate::random::Random;
 use crate::reference::checking::Step;
 use crate::reference::known::{steps, After, Known, Question};
 use crate::reference::meaning::Members;
-use crate::reference::{querying, RIGHT};
+use crate::reference::{querying, Refusal, RIGHT};
 use crate::watch;
 use std::collections::BTreeMap;
 
@@ -20,7 +20,7 @@ pub type Compared<T> = Result<T, Failure>;
 /// Inputs compared: by kind and call, and by call and refusal number (0 for success).
 #[derive(Default)]
 pub struct Counts {
-    pub kinds: BTreeMap<&'static str, [u64; 4]>,
+    pub kinds: BTreeMap<&'static str, [u64; 6]>,
     pub replies: BTreeMap<(&'static str, u32), u64>,
     pub longest: u64,
     pub deepest: u64,
@@ -69,6 +69,8 @@ impl<'a> Comparison<'a> {
             Input::Complete(i) => self.complete(known, i).map(|_| ()),
             Input::Query(i) => self.query(known, i).map(|_| ()),
             Input::Check(i) => self.check(known, i).map(|_| ()),
+            Input::Ends(i) => self.ends(known, i),
+            Input::Intervals(i) => self.intervals(known, i),
         }
     }
 
@@ -179,6 +181,42 @@ impl<'a> Comparison<'a> {
         Ok(reply)
     }
 
+    pub fn ends(&mut self, known: &Known, input: Ends) -> Compared<()> {
+        if !self.subject.has(Call::Ends) {
+            return Ok(());
+        }
+        let (expected, length, fill) = (known.ends(input.length), input.length, input.fill);
+        self.one_list(Input::Ends(input), length, fill, expected, |subject, file, list| subject.ends(file, list))
+    }
+
+    pub fn intervals(&mut self, known: &Known, input: Intervals) -> Compared<()> {
+        if !self.subject.has(Call::Intervals) {
+            return Ok(());
+        }
+        let (spans, length, fill) = (input.spans, input.length, input.fill);
+        let expected = known.intervals(spans, length);
+        self.one_list(Input::Intervals(input), length, fill, expected, |subject, file, list| subject.intervals(file, spans, list))
+    }
+
+    /// A call that is lent one list: the reply and the bytes are an equation.
+    fn one_list(
+        &mut self,
+        input: Input,
+        length: usize,
+        fill: u64,
+        expected: Result<(u64, Vec<u8>), Refusal>,
+        call: impl FnOnce(&dyn Calls, Slice, Slice) -> u64,
+    ) -> Compared<()> {
+        let mut at = Random(fill);
+        let file = self.file.lend(input.file(), &mut at);
+        let list = self.lists[0].lend_garbage(length, &mut at);
+        let before = list.all();
+        let reply = watch::during(&input, || call(self.subject, file, list));
+        let (expected, held) = expected.unwrap_or_else(|refusal| (refusal.reply(), before));
+        self.reply(&input, reply, expected)?;
+        self.lent(&input, &[held])
+    }
+
     fn reply(&mut self, input: &Input, reply: u64, expected: u64) -> Compared<()> {
         if reply != expected {
             let what = format!("reply {}, expected {}", shown(input, reply), shown(input, expected));
@@ -192,12 +230,7 @@ impl<'a> Comparison<'a> {
 
     /// The file as it was, the lists as expected, the bytes around them as they were.
     fn lent(&self, input: &Input, lists: &[Vec<u8>]) -> Compared<()> {
-        let file = match input {
-            Input::Complete(i) => i.file,
-            Input::Query(i) => i.file,
-            Input::Check(i) => i.file,
-        };
-        if self.file.now() != file || !self.file.guarded() {
+        if self.file.now() != input.file() || !self.file.guarded() {
             return Err(self.failure(input, "the file or a byte beside it was changed".into()));
         }
         for (i, expected) in lists.iter().enumerate() {

@@ -32,7 +32,7 @@ compare [--partial | --second | --wrong VARIANT] --replay INPUT
 compare --list
 
 Holds the library against the second implementation; with --second the second implementation against itself, with
---wrong a wrong variant of it. All three calls must be in the library, unless --partial is given. --percent multiplies
+--wrong a wrong variant of it. All calls must be in the library, unless --partial is given. --percent multiplies
 all counts. --self-test tries every wrong variant. --replay takes an input as a failure prints it. --list names kinds
 and variants.";
 
@@ -45,7 +45,7 @@ struct Options {
     /// Whether entries past the step count may be made unreadable.
     hides: bool,
     library: bool,
-    /// Whether a library without all three calls will do.
+    /// Whether a library without some of the calls will do.
     partial: bool,
 }
 
@@ -138,7 +138,7 @@ fn announce(options: &Options) {
     for call in &lacking {
         println!("{} is not in the library: not compared", call.name());
     }
-    if lacking.len() == 3 || !lacking.is_empty() && !options.partial {
+    if lacking.len() == Call::ALL.len() || !lacking.is_empty() && !options.partial {
         eprintln!("no library with all calls: build it, or name the archive in RTT_LIBRARY and build again");
         exit(2);
     }
@@ -190,13 +190,13 @@ fn run(options: &Options) {
     println!("no difference, seed {}, {:.1} s", options.seed, start.elapsed().as_secs_f64());
 }
 
-fn row(name: &str, files: u64, calls: [u64; 3]) {
-    print!("{name:9} {files:8} files {:9} completed {:9} queried {:9} checked", calls[0], calls[1], calls[2]);
+fn row(name: &str, files: u64, [completed, queried, checked, ends, intervals]: [u64; 5]) {
+    print!("{name:9} {files:7} files {completed:7} completed {queried:9} queried {checked:8} checked {ends:7} ends {intervals:7} intervals");
 }
 
 fn summary(counts: &Counts) {
     let total = |column: usize| counts.kinds.values().map(|row| row[column]).sum::<u64>();
-    row("all", total(0), [total(1), total(2), total(3)]);
+    row("all", total(0), [1, 2, 3, 4, 5].map(total));
     println!();
     for call in Call::ALL.into_iter().filter(|call| counts.replies.keys().any(|(name, _)| *name == call.name())) {
         let replies = counts.replies.iter().filter(|((name, _), _)| *name == call.name());
@@ -215,6 +215,8 @@ fn covered(subject: &dyn Calls, counts: &Counts) {
             Call::Complete => &[10],
             Call::Query => &[10, 11, 12, 13],
             Call::Check => &[11, 12, 14, 15, 16],
+            Call::Ends => &[],
+            Call::Intervals => &[11],
         };
         for number in (0..10).chain(last.iter().copied()) {
             if !counts.replies.contains_key(&(call.name(), number)) {

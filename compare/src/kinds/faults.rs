@@ -4,10 +4,11 @@ use crate::damage;
 use crate::explore::*;
 use crate::extremes::with_ends;
 use crate::files::*;
-use crate::input::{words, Check, Complete, Query};
+use crate::input::{words, Check, Complete, Ends, Intervals, Query};
 use crate::judge::{Compared, Comparison};
 use crate::random::Random;
 use crate::reference::checking::Step;
+use crate::reference::ends::BYTES;
 use crate::reference::known::{Known, Question};
 
 /// Every two faults of the file, with and without faults of the call's other arguments.
@@ -67,8 +68,18 @@ pub fn damaged_calls(c: &mut Comparison, random: &mut Random, file: &[u8], known
         let steps = few_steps(random, length);
         let check = Check { file, question, lists: words(&steps), lengths, count, hidden: false, fill: random.next() };
         c.check(known, check)?;
+        damaged_ends(c, random, file, known, faulty)?;
     }
     Ok(())
+}
+
+/// The ends and the intervals, with faults of the list and of the span number; the random numbers stay as they are.
+fn damaged_ends(c: &mut Comparison, random: &Random, file: &[u8], known: &Known, faulty: bool) -> Compared<()> {
+    let random = &mut random.clone();
+    let lengths = if faulty { &LISTS[..] } else { &[BYTES] };
+    let spans = if faulty { random.choose(&[0, 1, u64::MAX, 1 << 63, 1 << 32]) } else { 0 };
+    c.ends(known, Ends { file, length: random.choose(lengths), fill: random.next() })?;
+    c.intervals(known, Intervals { file, spans, length: random.choose(lengths), fill: random.next() })
 }
 
 /// Steps with small words, which hold now and then.
@@ -134,6 +145,11 @@ pub fn lists(c: &mut Comparison, random: &mut Random, count: usize) -> Compared<
                 }
             }
             query_lists(c, random, &file, &known, roles, &lengths)?;
+        }
+        let random = &mut random.clone();
+        for length in 0..1100 {
+            c.ends(&known, Ends { file: &file, length, fill: random.next() })?;
+            c.intervals(&known, Intervals { file: &file, spans: random.choose(&[0, 1, 1 << 63]), length, fill: random.next() })?;
         }
     }
     Ok(())

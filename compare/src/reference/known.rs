@@ -1,8 +1,9 @@
-//! The three calls on one file: document 01's table of refusals from top to bottom, then the answer.
+//! The calls on one file: document 01's table of refusals from top to bottom, then the answer.
 //! A minute's memberships and the table are computed once for a file and kept.
 
 use super::checking::{check, Step};
 use super::completing::{table, written, Table};
+use super::ends::{intervals, listed, whole_list};
 use super::meaning::{members, Members};
 use super::reading::{read, word, File};
 use super::{refuse, Membership, Refusal, Rules, MOST};
@@ -85,6 +86,21 @@ impl Known {
             Some(table) if table.len() <= length => (table.len() as u64, After::Holds(written(table, length))),
             _ => (Refusal { number: 10, place: 0 }.reply(), After::Zero),
         }
+    }
+
+    /// Count and list, or the refusal, which leaves the list as it was.
+    pub fn ends(&self, length: usize) -> Result<(u64, Vec<u8>), Refusal> {
+        let ends = self.read.as_ref().map_err(|r| *r)?.ends();
+        whole_list(length)?;
+        Ok((ends.len() as u64, listed(ends)))
+    }
+
+    /// The same of the intervals of a span number.
+    pub fn intervals(&self, spans: u64, length: usize) -> Result<(u64, Vec<u8>), Refusal> {
+        let ends = self.read.as_ref().map_err(|r| *r)?.ends();
+        whole_list(length)?;
+        let intervals = intervals(&ends, spans)?;
+        Ok((intervals.len() as u64, listed(intervals.into_iter().flat_map(|(from, to)| [from, to]))))
     }
 
     fn question(&self, q: Question, lengths: [usize; 4]) -> Result<(&File, usize), Refusal> {

@@ -1,8 +1,9 @@
-//! A second implementation of document 01's three calls, written from documents 01 and 003 and not from the library.
+//! A second implementation of the calls of document 01, written from documents 01 and 003 and not from the library.
 //! It is as slow and as plain as it can be: every minute's memberships are Definition 3's sequence from nothing.
 
 pub mod checking;
 pub mod completing;
+pub mod ends;
 pub mod known;
 pub mod meaning;
 pub mod querying;

@@ -2,6 +2,7 @@
 
 mod checking;
 mod completing;
+mod ends;
 mod querying;
 
 use crate::calls::{Call, Calls, Second, Slice};
@@ -12,6 +13,8 @@ use crate::reference::{Rules, RIGHT};
 type Completing = fn(&Second, Slice, [Slice; 3]) -> u64;
 type Querying = fn(&Second, Slice, Question, [Slice; 4]) -> u64;
 type Checking = fn(&Second, Slice, Question, [Slice; 4], u64) -> u64;
+type Ends = fn(&Second, Slice, Slice) -> u64;
+type Intervals = fn(&Second, Slice, u64, Slice) -> u64;
 
 /// The second implementation with other rules, or with another call around one of its calls.
 #[derive(Clone, Copy)]
@@ -22,6 +25,8 @@ pub struct Wrong {
     complete: Completing,
     query: Querying,
     check: Checking,
+    ends: Ends,
+    intervals: Intervals,
 }
 
 impl Calls for Wrong {
@@ -40,9 +45,26 @@ impl Calls for Wrong {
     fn check(&self, file: Slice, q: Question, lists: [Slice; 4], count: u64) -> u64 {
         (self.check)(&Second { rules: self.rules }, file, q, lists, count)
     }
+
+    fn ends(&self, file: Slice, list: Slice) -> u64 {
+        (self.ends)(&Second { rules: self.rules }, file, list)
+    }
+
+    fn intervals(&self, file: Slice, spans: u64, list: Slice) -> u64 {
+        (self.intervals)(&Second { rules: self.rules }, file, spans, list)
+    }
 }
 
-const NOT_WRONG: Wrong = Wrong { name: "", what: "", rules: RIGHT, complete: Second::complete, query: Second::query, check: Second::check };
+const NOT_WRONG: Wrong = Wrong {
+    name: "",
+    what: "",
+    rules: RIGHT,
+    complete: Second::complete,
+    query: Second::query,
+    check: Second::check,
+    ends: Second::ends,
+    intervals: Second::intervals,
+};
 
 const fn rules(name: &'static str, rules: Rules, what: &'static str) -> Wrong {
     Wrong { name, what, rules, ..NOT_WRONG }
@@ -58,6 +80,14 @@ const fn query(name: &'static str, query: Querying, what: &'static str) -> Wrong
 
 const fn check(name: &'static str, check: Checking, what: &'static str) -> Wrong {
     Wrong { name, what, check, ..NOT_WRONG }
+}
+
+const fn ends(name: &'static str, ends: Ends, what: &'static str) -> Wrong {
+    Wrong { name, what, ends, ..NOT_WRONG }
+}
+
+const fn intervals(name: &'static str, intervals: Intervals, what: &'static str) -> Wrong {
+    Wrong { name, what, intervals, ..NOT_WRONG }
 }
 
 /// Document 01's kinds, of which a variant changes one.
@@ -92,7 +122,7 @@ const RULES: &[Wrong] = &[
 
 /// Every wrong variant.
 pub fn all() -> Vec<Wrong> {
-    [RULES, completing::ALL, querying::ALL, checking::ALL].concat()
+    [RULES, completing::ALL, querying::ALL, checking::ALL, ends::ALL].concat()
 }
 
 fn number(reply: u64) -> u64 {

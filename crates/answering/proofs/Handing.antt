@@ -4,6 +4,7 @@ use mathlib.Core.Bool.{Bool, true}
 use mathlib.Core.Logic.{inl, inr}
 use mathlib.Core.List.{List, [], map}
 use Prim.Native.Nat.{ℕ, zero, suc, _-_, _≤_, _<_, max}
+use native.Mathlib.Nat.{le-refl}
 use native.Mathlib.Omega.{arith}
 use borrow.Author.Tests.{lt-ltb}
 use lib.Dec.{T, ltb}
@@ -16,7 +17,8 @@ use Rattle.meaning.specs.Proofs.{Step, Shown, nothing, citesFirst, citesSecond,
 use Rattle.store.specs.Entries.{keyOf, roleIn, setIn}
 use Rattle.store.proofs.Keys.{key-of-parts}
 use Rattle.file.proofs.Credentials.{getD-map-lt}
-use Rattle.derivation.specs.Derivation.{Citable, firstBy, secondBy, Holds, stepOf, shownOf, Derived, Derivation, membershipAt, HandedOut, words}
+use Rattle.derivation.specs.HandedOut.{membershipAt, HandedOut, words}
+use Rattle.derivation.specs.Derivation.{Citable, firstBy, secondBy, StepHolds, stepOf, shownOf, Derived, Derivation}
 use Rattle.store.specs.Notes.{word, levelOf}
 use Rattle.derivation.proofs.Positions.{map-below-length, map-below-at, steps-keep, proof-to}
 use Rattle.answering.specs.Answering.{Citing, Answered}
@@ -77,7 +79,7 @@ module _ (cs : List Credential) (m : ℕ) (keys notes : List ℕ) (n x : ℕ) (m
         subst⁻¹ (λ (b : Bool). Same b p w) e
         (subst (λ (q : ℕ). Same (ltb 0 w) q w) (at .numbered) (cited-same (entry p) w h (omega (arith, at .below)) (λ f q. g .cited (entry p) f (omega arith) (at .marked) (c f q))))
 
-    holds-at : Holds cs m step shown p
+    holds-at : StepHolds cs m step shown p
     holds-at =
         let h = derived .holds in
         let cited = cites (entry p) (omega (arith, at .below)) in
@@ -181,12 +183,12 @@ words-of field ss l l′ k size c n e p = p ∙ rw (e, n, c) refl
 pub held-fits : (keys notes marks : List ℕ) (x : ℕ) {credential first second sets : List ℕ} {r : ℕ} → Held (stepsBelow keys notes marks (suc x)) credential first second sets r → r ≤ suc x
 held-fits keys notes marks x h = omega (arith, h .size, steps-length keys notes marks (suc x), number-fits marks (suc x))
 
-pub answered : (keys notes : List ℕ) (n x size : ℕ) (marks : List ℕ) {credential first second sets credential′ first′ second′ sets′ : List ℕ} {r : ℕ} → x < n → Citing notes n → Marked notes x 0 marks
+pub answered : (keys notes : List ℕ) (x size : ℕ) (marks : List ℕ) {credential first second sets credential′ first′ second′ sets′ : List ℕ} {r : ℕ} → Citing notes (suc x) → Marked notes x 0 marks
     → Held (stepsBelow keys notes marks (suc x)) credential first second sets r
     → length credential ≡ size → length first ≡ size → length second ≡ size → length sets ≡ size
     → credential′ ≡ upTo r credential → first′ ≡ upTo r first → second′ ≡ upTo r second → sets′ ≡ upTo r sets
-    → Answered keys notes n x size credential′ first′ second′ sets′ r
-answered keys notes n x size marks {credential} {first} {second} {sets} {credential′} {first′} {second′} {sets′} {r} small cites g h a b c d p q s t =
+    → Answered keys notes x size credential′ first′ second′ sets′ r
+answered keys notes x size marks {credential} {first} {second} {sets} {credential′} {first′} {second′} {sets′} {r} cites g h a b c d p q s t =
     record {
       steps = stepsBelow keys notes marks (suc x);
       count = h .size;
@@ -195,5 +197,5 @@ answered keys notes n x size marks {credential} {first} {second} {sets} {credent
       byFirst = words-of (λ (s : Step). s .first) (stepsBelow keys notes marks (suc x)) first first′ r size (h .size) b (h .byFirst) q;
       bySecond = words-of (λ (s : Step). s .second) (stepsBelow keys notes marks (suc x)) second second′ r size (h .size) c (h .bySecond) s;
       bySet = words-of (λ (s : Step). s .set) (stepsBelow keys notes marks (suc x)) sets sets′ r size (h .size) d (h .bySet) t;
-      handed = λ cs m D. handed-out cs m keys notes n x marks D g small cites;
+      handed = λ cs m D. handed-out cs m keys notes (suc x) x marks D g (le-refl (suc x)) cites;
     }

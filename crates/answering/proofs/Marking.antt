@@ -10,6 +10,7 @@ use lib.Dec.{ltb}
 use lib.ListN.{length, getD, set, replicate, length-set}
 use lib.Seq.{getD-set-same, getD-set-other}
 use Rattle.meaning.specs.Lists.{if}
+use Rattle.meaning.proofs.ListLaws.{zeros-at}
 use Rattle.store.proofs.Chains.{equal-or-not}
 use Rattle.store.specs.Notes.{word}
 use Rattle.answering.specs.Answering.{Citing}
@@ -142,11 +143,6 @@ spread-left notes i marks h = rw (le-ltb 0 (getD marks i 0) h)
 
 -- ---- at the start only entry x is marked
 
-zeros : (n j : ℕ) → _≡_ {A = ℕ} (getD (replicate n 0) j 0) 0
-zeros zero j = refl
-zeros (suc n) zero = refl
-zeros (suc n) (suc j) = zeros n j
-
 pub one-marked : (notes : List ℕ) (x : ℕ) → x < 1024 → Marked notes x (suc x) (set (replicate 1024 0) x 1)
 one-marked notes x h =
     record {
@@ -161,4 +157,4 @@ one-marked notes x h =
       where
         go : (j ≡ x) ⊎ (j ≡ x → ⊥) → j ≡ x
         go (inl e) = e
-        go (inr ne) = absurd (let z : 0 < 0 = subst (λ (y : ℕ). 0 < y) (getD-set-other {A = ℕ} (replicate 1024 0) x j 1 0 ne ∙ zeros 1024 j) m in omega arith)
+        go (inr ne) = absurd (let z : 0 < 0 = subst (λ (y : ℕ). 0 < y) (getD-set-other {A = ℕ} (replicate 1024 0) x j 1 0 ne ∙ zeros-at 1024 j) m in omega arith)

@@ -15,21 +15,21 @@ use Rattle.store.proofs.Chains.{last-or-below}
 use Rattle.store.specs.Notes.{word}
 use Rattle.answering.specs.Answering.{Citing}
 use Rattle.answering.specs.Marks.{Marked}
-use Rattle.answering.specs.Steps.{kept, number, citedStep, citedIn, stepFrom, stepsBelow, Held, Turn}
+use Rattle.answering.specs.Steps.{kept, number, citedStep, citedIn, stepFrom, stepsBelow, Held, StepWritten}
 use Rattle.answering.proofs.Numbering.{kept-more, kept-same, number-fits}
 
 -- ---- a turn, as the code has it
 
 module _ (keys notes : List ℕ) (i k : ℕ) (numbers credential first second sets : List ℕ) where
-  pub turn-left : getD numbers i 0 ≡ 0 → Turn (ltb 0 (getD numbers i 0)) keys notes i k numbers credential first second sets numbers credential first second sets k
+  pub turn-left : getD numbers i 0 ≡ 0 → StepWritten (ltb 0 (getD numbers i 0)) keys notes i k numbers credential first second sets numbers credential first second sets k
   turn-left e =
-      subst⁻¹ (λ (m : ℕ). Turn (ltb 0 m) keys notes i k numbers credential first second sets numbers credential first second sets k) e
+      subst⁻¹ (λ (m : ℕ). StepWritten (ltb 0 m) keys notes i k numbers credential first second sets numbers credential first second sets k) e
       (record { count = refl; numbered = refl; byCredential = refl; byFirst = refl; bySecond = refl; bySet = refl })
 
   pub turn-taken : (c f s : ℕ) → (getD numbers i 0 ≡ 0 → ⊥) → c ≡ word notes i 0 → f ≡ citedIn numbers (word notes i 1) → s ≡ citedIn numbers (word notes i 2)
-      → Turn (ltb 0 (getD numbers i 0)) keys notes i k numbers credential first second sets (set numbers i k) (set credential k c) (set first k f) (set second k s) (set sets k (getD keys i 0 % 4294967296)) (k + 1)
+      → StepWritten (ltb 0 (getD numbers i 0)) keys notes i k numbers credential first second sets (set numbers i k) (set credential k c) (set first k f) (set second k s) (set sets k (getD keys i 0 % 4294967296)) (k + 1)
   turn-taken c f s ne p q r =
-      subst⁻¹ (λ (b : Bool). Turn b keys notes i k numbers credential first second sets (set numbers i k) (set credential k c) (set first k f) (set second k s) (set sets k (getD keys i 0 % 4294967296)) (k + 1))
+      subst⁻¹ (λ (b : Bool). StepWritten b keys notes i k numbers credential first second sets (set numbers i k) (set credential k c) (set first k f) (set second k s) (set sets k (getD keys i 0 % 4294967296)) (k + 1))
       (lt-ltb 0 (getD numbers i 0) (omega arith))
       (record { count = refl; numbered = refl; byCredential = ap (set credential k) p; byFirst = ap (set first k) q; bySecond = ap (set second k) r; bySet = refl })
 
@@ -108,7 +108,7 @@ module _ {keys notes marks : List ℕ} {i : ℕ} {numbers credential first secon
 
   module _ {numbers′ credential′ first′ second′ sets′ : List ℕ} {r : ℕ} where
     taken : i < 1024 → k < length credential → k < length first → k < length second → k < length sets → 0 < getD marks i 0 → citedIn numbers (word notes i 1) ≡ citedStep marks (word notes i 1) → citedIn numbers (word notes i 2) ≡ citedStep marks (word notes i 2)
-        → Turn true keys notes i k numbers credential first second sets numbers′ credential′ first′ second′ sets′ r → Progress keys notes marks (suc i) numbers′ credential′ first′ second′ sets′ r
+        → StepWritten true keys notes i k numbers credential first second sets numbers′ credential′ first′ second′ sets′ r → Progress keys notes marks (suc i) numbers′ credential′ first′ second′ sets′ r
     taken small a b c d h p q t =
         record {
           room = ap length (t .numbered) ∙ length-set numbers i k ∙ g .room;
@@ -126,7 +126,7 @@ module _ {keys notes marks : List ℕ} {i : ℕ} {numbers credential first secon
             ∙ g .held .size ∙ steps-length keys notes marks i ∙ ap (number marks) (sym e)
         at j m (inr l) = ap (λ (n : List ℕ). getD n j 0) (t .numbered) ∙ getD-set-other numbers i j k 0 (λ e. omega arith) ∙ g .numbered j l m
 
-    left : getD marks i 0 ≤ 0 → Turn false keys notes i k numbers credential first second sets numbers′ credential′ first′ second′ sets′ r → Progress keys notes marks (suc i) numbers′ credential′ first′ second′ sets′ r
+    left : getD marks i 0 ≤ 0 → StepWritten false keys notes i k numbers credential first second sets numbers′ credential′ first′ second′ sets′ r → Progress keys notes marks (suc i) numbers′ credential′ first′ second′ sets′ r
     left h t =
         record {
           room = ap length (t .numbered) ∙ g .room;
@@ -149,12 +149,12 @@ module _ {keys notes marks : List ℕ} {i : ℕ} {numbers credential first secon
         at j m (inr l) = ap (λ (n : List ℕ). getD n j 0) (t .numbered) ∙ g .numbered j l m
 
     pub progress-turn : (x : ℕ) → Citing notes (suc x) → Marked notes x 0 marks → x < 1024 → i ≤ x → k < length credential → k < length first → k < length second → k < length sets
-        → Turn (ltb 0 (getD numbers i 0)) keys notes i k numbers credential first second sets numbers′ credential′ first′ second′ sets′ r → Progress keys notes marks (i + 1) numbers′ credential′ first′ second′ sets′ r
+        → StepWritten (ltb 0 (getD numbers i 0)) keys notes i k numbers credential first second sets numbers′ credential′ first′ second′ sets′ r → Progress keys notes marks (i + 1) numbers′ credential′ first′ second′ sets′ r
     progress-turn x before m small h a b c d t =
         subst⁻¹ (λ (n : ℕ). Progress keys notes marks n numbers′ credential′ first′ second′ sets′ r) (add-one i)
-        (go (ltb 0 (getD marks i 0)) refl (subst (λ (v : ℕ). Turn (ltb 0 v) keys notes i k numbers credential first second sets numbers′ credential′ first′ second′ sets′ r) (g .onward i (omega arith)) t))
+        (go (ltb 0 (getD marks i 0)) refl (subst (λ (v : ℕ). StepWritten (ltb 0 v) keys notes i k numbers credential first second sets numbers′ credential′ first′ second′ sets′ r) (g .onward i (omega arith)) t))
       where
-        go : (v : Bool) → ltb 0 (getD marks i 0) ≡ v → Turn v keys notes i k numbers credential first second sets numbers′ credential′ first′ second′ sets′ r → Progress keys notes marks (suc i) numbers′ credential′ first′ second′ sets′ r
+        go : (v : Bool) → ltb 0 (getD marks i 0) ≡ v → StepWritten v keys notes i k numbers credential first second sets numbers′ credential′ first′ second′ sets′ r → Progress keys notes marks (suc i) numbers′ credential′ first′ second′ sets′ r
         go true e t =
             let here = ltb-true 0 (getD marks i 0) e in
             let w = before i (omega arith) in

@@ -43,8 +43,8 @@ pub record Held (ss : List Step) (credential first second sets : List ℕ) (k : 
   pub bySecond : take k second ≡ map (λ (s : Step). s .second) ss
   pub bySet : take k sets ≡ map (λ (s : Step). s .set) ss
 
--- what one turn leaves: where `b`, entry i as step k, with k as its number; otherwise all as before
-pub record Turn (b : Bool) (keys notes : List ℕ) (i k : ℕ) (numbers credential first second sets numbers′ credential′ first′ second′ sets′ : List ℕ) (r : ℕ) : Type 0 where
+-- what the turn of entry i leaves: where `b`, the entry as step k, with k as its number; otherwise all as before
+pub record StepWritten (b : Bool) (keys notes : List ℕ) (i k : ℕ) (numbers credential first second sets numbers′ credential′ first′ second′ sets′ : List ℕ) (r : ℕ) : Type 0 where
   pub count : r ≡ if b (k + 1) k
   pub numbered : numbers′ ≡ if b (set numbers i k) numbers
   pub byCredential : credential′ ≡ if b (set credential k (word notes i 0)) credential

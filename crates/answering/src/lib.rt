@@ -6,7 +6,7 @@ ghost use lib.ListN.{length, getD};
 ghost use Rattle.store.specs.Notes.{word};
 ghost use Rattle.answering.specs.Answering.{Citing, Answered};
 ghost use Rattle.answering.specs.Marks.{markedBy, spreadBy, Marked};
-ghost use Rattle.answering.specs.Steps.{citedIn, stepsBelow, Held, Turn, upTo};
+ghost use Rattle.answering.specs.Steps.{citedIn, stepsBelow, Held, StepWritten, upTo};
 
 // Writes the steps on which entry x rests, from place 0 on, with zeros after them, and returns how many there are.
 pub fn answer(
@@ -16,16 +16,32 @@ pub fn answer(
     sets: &mut [u32],
     keys: &[u64],
     notes: &[u16],
-    n: usize,
     x: usize,
 ) -> usize
-    requires { ⌜ (length (now keys) ≡ 1024) × (length (now notes) ≡ 4096) × Citing (now notes) n ⌝ ∗ ⌜ (length (now first) ≡ length (now credential)) × (length (now second) ≡ length (now credential)) × (length (now sets) ≡ length (now credential)) ⌝ ∗ ⌜ (x < n) × (n ≤ length (now credential)) × (length (now credential) ≤ 1024) ⌝ }
-    ensures { λ r. ⌜ Answered (now (keys .entry)) (now (notes .entry)) n x (length (now (credential .entry))) (now (credential .exit)) (now (first .exit)) (now (second .exit)) (now (sets .exit)) r ⌝ }
+    requires { ⌜ (length (now keys) ≡ 1024) × (length (now notes) ≡ 4096) × Citing (now notes) (suc x) ⌝ ∗ ⌜ (length (now first) ≡ length (now credential)) × (length (now second) ≡ length (now credential)) × (length (now sets) ≡ length (now credential)) ⌝ ∗ ⌜ (x < length (now credential)) × (length (now credential) ≤ 1024) ⌝ }
+    ensures { λ r. ⌜ Answered (now (keys .entry)) (now (notes .entry)) x (length (now (credential .entry))) (now (credential .exit)) (now (first .exit)) (now (second .exit)) (now (sets .exit)) r ⌝ }
 {
     let mut marks = needed(notes, x);
     let k = write_steps(&mut marks, credential, first, second, sets, keys, notes, x);
     clear_from(credential, first, second, sets, k);
     k
+}
+
+// Sets the four lists to zero from place k on.
+pub fn clear_from(
+    credential: &mut [u32],
+    first: &mut [u32],
+    second: &mut [u32],
+    sets: &mut [u32],
+    k: usize,
+)
+    requires { ⌜ (k ≤ length (now credential)) × (k ≤ length (now first)) × (k ≤ length (now second)) × (k ≤ length (now sets)) ⌝ }
+    ensures { λ _. ⌜ (now (credential .exit) ≡ upTo k (now (credential .entry))) × (now (first .exit) ≡ upTo k (now (first .entry))) × (now (second .exit) ≡ upTo k (now (second .entry))) × (now (sets .exit) ≡ upTo k (now (sets .entry))) ⌝ }
+{
+    writing::clear32(&mut credential[k..]);
+    writing::clear32(&mut first[k..]);
+    writing::clear32(&mut second[k..]);
+    writing::clear32(&mut sets[k..]);
 }
 
 // Word k of entry i.
@@ -34,12 +50,6 @@ fn word_of(notes: &[u16], i: usize, k: usize) -> u16
     ensures { λ r. ⌜ r ≡ word (now (notes .entry)) i k ⌝ }
 {
     notes[4 * i + k]
-}
-
-fn wide(x: u16) -> u32
-    ensures { λ r. ⌜ r ≡ x ⌝ }
-{
-    x as u32
 }
 
 // Marks the entry that a word cites.
@@ -85,7 +95,11 @@ fn cited(numbers: &[u16; 1024], w: u16) -> u32
     ensures { λ r. ⌜ r ≡ citedIn (now (numbers .entry)) w ⌝ }
 {
     let j = w as usize;
-    if 0 < j { wide(numbers[j - 1]) } else { 0 }
+    if 0 < j {
+        store::wide(numbers[j - 1]) as u32
+    } else {
+        0
+    }
 }
 
 // Writes entry i as step k where it is marked, and leaves k as its number; returns the next step's number.
@@ -101,12 +115,12 @@ fn write_step(
     k: usize,
 ) -> usize
     requires { ⌜ (length (now keys) ≡ 1024) × (length (now notes) ≡ 4096) × (i < 1024) × (k ≤ i) ⌝ ∗ ⌜ (word (now notes) i 1 ≤ i) × (word (now notes) i 2 ≤ i) ⌝ ∗ ⌜ (k < length (now credential)) × (k < length (now first)) × (k < length (now second)) × (k < length (now sets)) ⌝ }
-    ensures { λ r. ⌜ Turn (ltb 0 (getD (now (numbers .entry)) i 0)) (now (keys .entry)) (now (notes .entry)) i k (now (numbers .entry)) (now (credential .entry)) (now (first .entry)) (now (second .entry)) (now (sets .entry)) (now (numbers .exit)) (now (credential .exit)) (now (first .exit)) (now (second .exit)) (now (sets .exit)) r ⌝ }
+    ensures { λ r. ⌜ StepWritten (ltb 0 (getD (now (numbers .entry)) i 0)) (now (keys .entry)) (now (notes .entry)) i k (now (numbers .entry)) (now (credential .entry)) (now (first .entry)) (now (second .entry)) (now (sets .entry)) (now (numbers .exit)) (now (credential .exit)) (now (first .exit)) (now (second .exit)) (now (sets .exit)) r ⌝ }
 {
     if numbers[i] == 0 {
         return k;
     }
-    credential[k] = wide(word_of(notes, i, 0));
+    credential[k] = store::wide(word_of(notes, i, 0)) as u32;
     first[k] = cited(numbers, word_of(notes, i, 1));
     second[k] = cited(numbers, word_of(notes, i, 2));
     sets[k] = (keys[i] % 4294967296) as u32;
@@ -135,21 +149,4 @@ fn write_steps(
         i += 1;
     }
     k
-}
-
-// Sets the four lists to zero from place k on.
-fn clear_from(
-    credential: &mut [u32],
-    first: &mut [u32],
-    second: &mut [u32],
-    sets: &mut [u32],
-    k: usize,
-)
-    requires { ⌜ (k ≤ length (now credential)) × (k ≤ length (now first)) × (k ≤ length (now second)) × (k ≤ length (now sets)) ⌝ }
-    ensures { λ _. ⌜ (now (credential .exit) ≡ upTo k (now (credential .entry))) × (now (first .exit) ≡ upTo k (now (first .entry))) × (now (second .exit) ≡ upTo k (now (second .entry))) × (now (sets .exit) ≡ upTo k (now (sets .entry))) ⌝ }
-{
-    writing::clear32(&mut credential[k..]);
-    writing::clear32(&mut first[k..]);
-    writing::clear32(&mut second[k..]);
-    writing::clear32(&mut sets[k..]);
 }

@@ -14,13 +14,13 @@ use Rattle.meaning.specs.Table.{bit}
 use Rattle.meaning.proofs.Tests.{and-in, and-left, and-right, is-true, eq-in}
 use Rattle.meaning.proofs.Bits.{bit-below-two, bit-above, bits-below}
 use Rattle.file.specs.declared.Refusal.{Refusal}
-use Rattle.file.specs.Refusals.{Row, Outcome, done, refused, first}
+use Rattle.file.specs.Refusals.{RefusalRow, Outcome, done, refused, first}
 use Rattle.file.specs.Values.{refusalOf, firstRefusal}
 use Rattle.file.specs.Format.{E, R, N}
 use Rattle.file.specs.Reading.{headRows, credentialRows, credentialsRows, endsRow, reading}
 use Rattle.file.proofs.First.{after, numbered, noneHolds, first-append, first-clear, first-holds, holds-first, numbered-append, not-not}
 use Rattle.file.proofs.Refusals.{accepted-read, accepted-exact}
-use Rattle.ends.proofs.Surveying.{reading-numbered}
+use Rattle.survey.proofs.Surveying.{reading-numbered}
 use Rattle.asking.specs.Asking.{Request, StepLists, oneLength, within, requestRows, asking, Askable}
 
 -- ---- rows and their numbers
@@ -45,21 +45,21 @@ module _ {A : Type 0} (p : A → Bool) where
   all-right (x ∷ xs) ys t = all-right xs ys (and-right (p x) (all p (xs ++ ys)) t)
 
 -- a refusal has the number of one of the rows
-pub first-number : {A : Type 0} (test : ℕ → Bool) (rows : List Row) (a : A) {n p : ℕ} → T (all (λ (r : Row). test (r .number)) rows) → first rows a ≡ refused n p → T (test n)
+pub first-number : {A : Type 0} (test : ℕ → Bool) (rows : List RefusalRow) (a : A) {n p : ℕ} → T (all (λ (r : RefusalRow). test (r .number)) rows) → first rows a ≡ refused n p → T (test n)
 first-number test [] a t e = let z : _≡_ {A = ℕ} 0 1 = cc in absurd (omega arith)
 first-number {A} test (x ∷ rows) a {n} {p} t e =
-    go (x .holds) e (first-number test rows a (and-right (test (x .number)) (all (λ (r : Row). test (r .number)) rows) t))
+    go (x .holds) e (first-number test rows a (and-right (test (x .number)) (all (λ (r : RefusalRow). test (r .number)) rows) t))
   where
     go : (h : Bool) → _≡_ {A = Outcome A} (elim h [ true ↦ refused (x .number) (x .place) | false ↦ first rows a ]) (refused n p) → (first rows a ≡ refused n p → T (test n)) → T (test n)
     go true e f =
         let q : x .number ≡ n = cc in
-        subst (λ (k : ℕ). T (test k)) q (and-left (test (x .number)) (all (λ (r : Row). test (r .number)) rows) t)
+        subst (λ (k : ℕ). T (test k)) q (and-left (test (x .number)) (all (λ (r : RefusalRow). test (r .number)) rows) t)
     go false e f = f e
 
 -- ---- rows that come first, by their first refusal
 
-module _ (rows : List Row) (r : Refusal) (e : r ≡ firstRefusal rows) where
-  rows-refused : (r .number ≡ 0 → ⊥) → {B : Type 0} (more : List Row) (b : B) → first (rows ++ more) b ≡ refused (r .number) (r .place)
+module _ (rows : List RefusalRow) (r : Refusal) (e : r ≡ firstRefusal rows) where
+  rows-refused : (r .number ≡ 0 → ⊥) → {B : Type 0} (more : List RefusalRow) (b : B) → first (rows ++ more) b ≡ refused (r .number) (r .place)
   rows-refused h {B} more b = first-append {A = ℕ} {B = B} rows more 0 b ∙ go (first rows 0) e
     where
       go : (o : Outcome ℕ) → r ≡ refusalOf o → _≡_ {A = Outcome B} (after o (first more b)) (refused (r .number) (r .place))
@@ -69,7 +69,7 @@ module _ (rows : List Row) (r : Refusal) (e : r ≡ firstRefusal rows) where
   rows-clear : T (numbered rows) → r .number ≡ 0 → {B : Type 0} (b : B) → first rows b ≡ done b
   rows-clear t z b = first-clear rows b t (sym (ap (λ (x : Refusal). x .number) e) ∙ z)
 
-rows-passed : {B : Type 0} (rows more : List Row) (b : B) → first rows b ≡ done b → first (rows ++ more) b ≡ first more b
+rows-passed : {B : Type 0} (rows more : List RefusalRow) (b : B) → first rows b ≡ done b → first (rows ++ more) b ≡ first more b
 rows-passed {B} rows more b e =
     first-append {A = B} {B = B} rows more b b ∙ ap (λ (o : Outcome B). after {A = B} {B = B} o (first more b)) e
 
@@ -78,7 +78,7 @@ rows-passed {B} rows more b e =
 abbrev low : ℕ → Bool
 low n = leb 1 n && leb n 12 && not (eqb n 10)
 
-abbrev lowRow : Row → Bool
+abbrev lowRow : RefusalRow → Bool
 lowRow r = low (r .number)
 
 reading-low : (f : List ℕ) → T (all lowRow (reading f))
@@ -98,23 +98,23 @@ module _ (f : List ℕ) (q : Request) (t : StepLists) where
   unfolding asking
   asking-low = all-append lowRow (reading f) (requestRows f q t) (reading-low f) tt
 
-  asking-done : Askable f q t → {B : Type 0} (b : B) → first (asking f q t) b ≡ done b
+  pub asking-done : Askable f q t → {B : Type 0} (b : B) → first (asking f q t) b ≡ done b
   unfolding asking
   asking-done k b =
       rows-passed (reading f) (requestRows f q t) b (accepted-read b f (k .accepted))
       ∙ rw (k .lists, k .within, ne-eqb _ _ (k .some), ne-eqb _ _ (k .minute)) refl
 
   -- A request that is askable is refused nothing: the rows that follow decide.
-  pub askable-passes : Askable f q t → {B : Type 0} (more : List Row) (b : B) → first (asking f q t ++ more) b ≡ first more b
+  pub askable-passes : Askable f q t → {B : Type 0} (more : List RefusalRow) (b : B) → first (asking f q t ++ more) b ≡ first more b
   askable-passes k more b = rows-passed (asking f q t) more b (asking-done k b)
 
   module _ (r : Refusal) (e : r ≡ firstRefusal (asking f q t)) where
     -- A refusal of the request is the answer of every call that takes it.
-    pub asked-refused : (r .number ≡ 0 → ⊥) → {B : Type 0} (more : List Row) (b : B) → first (asking f q t ++ more) b ≡ refused (r .number) (r .place)
+    pub asked-refused : (r .number ≡ 0 → ⊥) → {B : Type 0} (more : List RefusalRow) (b : B) → first (asking f q t ++ more) b ≡ refused (r .number) (r .place)
     asked-refused = rows-refused (asking f q t) r e
 
     -- Without one the rows that follow decide.
-    pub asked-passed : r .number ≡ 0 → {B : Type 0} (more : List Row) (b : B) → first (asking f q t ++ more) b ≡ first more b
+    pub asked-passed : r .number ≡ 0 → {B : Type 0} (more : List RefusalRow) (b : B) → first (asking f q t ++ more) b ≡ first more b
     asked-passed z more b = rows-passed (asking f q t) more b (rows-clear (asking f q t) r e asking-numbered z b)
 
     -- Without one the request is askable.
@@ -122,8 +122,8 @@ module _ (f : List ℕ) (q : Request) (t : StepLists) where
     unfolding asking
     askable z =
         let none : T (noneHolds (asking f q t)) = first-holds {A = ℕ} (asking f q t) 0 0 (rows-clear (asking f q t) r e asking-numbered z 0) in
-        let h = all-left (λ (x : Row). not (x .holds)) (reading f) (requestRows f q t) none in
-        let u = all-right (λ (x : Row). not (x .holds)) (reading f) (requestRows f q t) none in
+        let h = all-left (λ (x : RefusalRow). not (x .holds)) (reading f) (requestRows f q t) none in
+        let u = all-right (λ (x : RefusalRow). not (x .holds)) (reading f) (requestRows f q t) none in
         let a : Bool = oneLength t in
         let w : Bool = within f (q .role) (q .set) in
         let s : Bool = not (eqb (q .set) 0) in

@@ -14,9 +14,9 @@ use Rattle.file.specs.Reading.{reading}
 use Rattle.file.specs.Conditions.{Accepted}
 use Rattle.file.proofs.First.{refusal-any, first-clear, refusal-stopped, refusal-passed}
 use Rattle.file.proofs.Refusals.{accepted-exact}
-use Rattle.ends.specs.declared.Summary.{Summary}
-use Rattle.ends.specs.Ends.{Surveyed}
-use Rattle.ends.proofs.Surveying.{reading-numbered}
+use Rattle.survey.specs.declared.Summary.{Summary}
+use Rattle.survey.specs.Surveying.{Surveyed}
+use Rattle.survey.proofs.Surveying.{reading-numbered}
 use Rattle.asking.specs.declared.Admission.{Admission}
 use Rattle.asking.specs.Asking.{Request, StepLists, oneLength, within, requestRows, asking}
 use Rattle.asking.specs.Admitting.{Admits}

@@ -1,2 +1,4 @@
 pub mod Asked
+pub mod Requests
 pub mod Judging
+pub mod Claims

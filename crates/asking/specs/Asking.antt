@@ -7,7 +7,7 @@ use lib.Dec.{eqb, ltb}
 use lib.ListN.{length, getD}
 use Rattle.meaning.specs.Lists.{below}
 use Rattle.meaning.specs.Proofs.{Step}
-use Rattle.file.specs.Refusals.{Row, _when_}
+use Rattle.file.specs.Refusals.{RefusalRow, _when_}
 use Rattle.file.specs.Format.{E, R}
 use Rattle.file.specs.Reading.{between, reading}
 use Rattle.file.specs.Conditions.{Accepted}
@@ -50,7 +50,7 @@ abbrev pub within : List ℕ → ℕ → ℕ → Bool
 within f Ar X = ltb (Ar / 32) (E f) && ltb (Ar % 32) (R f) && ltb X (2 ^ E f)
 
 -- 9, 11 and 12
-abbrev pub requestRows : List ℕ → Request → StepLists → List Row
+abbrev pub requestRows : List ℕ → Request → StepLists → List RefusalRow
 requestRows f q t =
     9 when (not (oneLength t))
     ∷ 11 when (not (within f (q .role) (q .set) && not (eqb (q .set) 0)))
@@ -58,7 +58,7 @@ requestRows f q t =
     ∷ []
 
 -- 1 to 9, 11 and 12
-unfoldable pub asking : List ℕ → Request → StepLists → List Row
+unfoldable pub asking : List ℕ → Request → StepLists → List RefusalRow
 asking f q t = reading f ++ requestRows f q t
 
 -- none of these refusals is given

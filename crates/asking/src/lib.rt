@@ -28,8 +28,8 @@ pub fn judge(
 ) -> Admission
     ensures { λ r. ⌜ Admits (now (file .entry)) (request role set minute) (stepLists (now (credential .entry)) (now (first .entry)) (now (second .entry)) (now (sets .entry))) (now (policy .exit)) r ⌝ }
 {
-    let mut ends = ends::no_ends();
-    let s = ends::survey(policy, &mut ends, file);
+    let mut ends = survey::no_ends();
+    let s = survey::survey(policy, &mut ends, file);
     if s.number != 0 {
         return refused(s.number, s.place);
     }

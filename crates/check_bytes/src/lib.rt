@@ -3,7 +3,7 @@ ghost use mathlib.Core.Path.{_≡_};
 ghost use Prim.Native.Nat.{_*_, _≤_, min};
 ghost use lib.ListN.{length, take};
 ghost use Rattle.asking.specs.Asking.{request, stepLists};
-ghost use Rattle.checking.specs.Checking.{says};
+ghost use Rattle.checking.specs.Checking.{saysChecked};
 ghost use Rattle.codec.specs.Bytes.{firstEntries};
 ghost use Rattle.replies.specs.Interface.{word};
 ghost use Rattle.replies.specs.Lengths.{StepSizes};
@@ -49,7 +49,7 @@ pub fn check(
 }
 
 fn number_of(answer: Checked) -> u64
-    ensures { λ r. ⌜ r ≡ word (λ n. n) (says answer) ⌝ }
+    ensures { λ r. ⌜ r ≡ word (λ n. n) (saysChecked answer) ⌝ }
 {
     match answer {
         Checked::Level(level) => level as u64,

@@ -12,7 +12,7 @@ use Rattle.meaning.specs.Credentials.{Credential}
 use Rattle.meaning.specs.Proofs.{Shown, nothing, shownBy}
 use Rattle.meaning.proofs.Tests.{and-left, and-right}
 use Rattle.file.specs.declared.Refusal.{Refusal}
-use Rattle.file.specs.Refusals.{Row, Outcome, done, refused, first, _at_when_}
+use Rattle.file.specs.Refusals.{RefusalRow, Outcome, done, refused, first, _at_when_}
 use Rattle.file.specs.Values.{firstRefusal}
 use Rattle.file.specs.Format.{credentials}
 use Rattle.file.specs.Reading.{between}
@@ -26,14 +26,14 @@ use Rattle.steps.proofs.Counting.{getD-counted}
 -- ---- the rows of 15, where `test i` says that step i holds
 
 module _ {A : Type 0} (a : A) (test : ℕ → Bool) where
-  abbrev brokenRow : ℕ → Row
+  abbrev brokenRow : ℕ → RefusalRow
   brokenRow i = 15 at i when (not (test i))
 
-  rows-pass : (n i : ℕ) (more : List Row) → ((j : ℕ) → i ≤ j → j < i + n → test j ≡ true) → first (map brokenRow (upFrom i n) ++ more) a ≡ first more a
+  rows-pass : (n i : ℕ) (more : List RefusalRow) → ((j : ℕ) → i ≤ j → j < i + n → test j ≡ true) → first (map brokenRow (upFrom i n) ++ more) a ≡ first more a
   rows-pass zero i more h = refl
   rows-pass (suc n) i more h = rw (h i (omega arith) (omega arith)) (rows-pass n (suc i) more (λ j k l. h j (omega arith) (omega arith)))
 
-  rows-give : (k n i : ℕ) (more : List Row) → k < n → ((j : ℕ) → i ≤ j → j < i + k → test j ≡ true) → test (i + k) ≡ false
+  rows-give : (k n i : ℕ) (more : List RefusalRow) → k < n → ((j : ℕ) → i ≤ j → j < i + k → test j ≡ true) → test (i + k) ≡ false
       → _≡_ {A = Outcome A} (first (map brokenRow (upFrom i n) ++ more) a) (refused 15 (i + k))
   rows-give k zero i more l h e = absurd (omega arith)
   rows-give zero (suc n) i more l h e =
@@ -45,10 +45,10 @@ module _ {A : Type 0} (a : A) (test : ℕ → Bool) where
       rw (h i (omega arith) (omega arith))
       (rows-give k n (suc i) more (omega arith) (λ j m o. h j (omega arith) (omega arith)) (ap test z ∙ e) ∙ ap (λ (x : ℕ). refused 15 x) z)
 
-  pub steps-pass : (n : ℕ) (more : List Row) → ((j : ℕ) → j < n → test j ≡ true) → first (map brokenRow (below n) ++ more) a ≡ first more a
+  pub steps-pass : (n : ℕ) (more : List RefusalRow) → ((j : ℕ) → j < n → test j ≡ true) → first (map brokenRow (below n) ++ more) a ≡ first more a
   steps-pass n more h = rows-pass n 0 more (λ j k l. h j (omega arith))
 
-  pub steps-give : (p n : ℕ) (more : List Row) → p < n → ((j : ℕ) → j < p → test j ≡ true) → test p ≡ false
+  pub steps-give : (p n : ℕ) (more : List RefusalRow) → p < n → ((j : ℕ) → j < p → test j ≡ true) → test p ≡ false
       → _≡_ {A = Outcome A} (first (map brokenRow (below n) ++ more) a) (refused 15 p)
   steps-give p n more l h e =
       let z : 0 + p ≡ p = omega arith in

@@ -10,7 +10,7 @@ use lib.ListN.{length, getD}
 use lib.Seq.{getD-take}
 use Rattle.meaning.specs.Credentials.{Credential}
 use Rattle.meaning.specs.Proofs.{Step, Shown, nothing, shownBy}
-use Rattle.file.specs.Refusals.{Row, first, _when_, _at_when_}
+use Rattle.file.specs.Refusals.{RefusalRow, first, _when_, _at_when_}
 use Rattle.file.specs.Format.{credentials}
 use Rattle.file.specs.Reading.{between, reading}
 use Rattle.asking.specs.Asking.{Request, StepLists, stepIn, stepsIn, size, oneLength, within, asking}
@@ -41,7 +41,7 @@ module _ (n : ℕ) (t u : StepLists) (same : (i : ℕ) → i < n → stepIn t i 
 
     same-rows : stepRows cs q t n ≡ stepRows cs q u n
     same-rows =
-        ap₂ (λ (l : List Row) (x : Shown). l ++ 16 when (not (eqb (x .role) (q .role) && eqb (x .set) (q .set))) ∷ [])
+        ap₂ (λ (l : List RefusalRow) (x : Shown). l ++ 16 when (not (eqb (x .role) (q .role) && eqb (x .set) (q .set))) ∷ [])
         (counted-same (stepRow cs (q .minute) t) (stepRow cs (q .minute) u) n
         (λ i h. ap₂ (λ (ss : List Step) (s : Step). 15 at i when (not (stepHolds cs (q .minute) ss s))) (same-steps i (omega arith)) (same i h)))
         same-last
@@ -60,7 +60,7 @@ module _ (n : ℕ) (t : StepLists) where
 
   pub part-concludes : (cs : List Credential) (q : Request) → concluding cs q (partBefore n t) n ≡ concluding cs q t n
   unfolding concluding
-  part-concludes cs q = ap₂ (λ (l : List Row) (x : Shown). first l (x .level)) (same-rows n (partBefore n t) t part-step cs q) (same-last n (partBefore n t) t part-step cs q)
+  part-concludes cs q = ap₂ (λ (l : List RefusalRow) (x : Shown). first l (x .level)) (same-rows n (partBefore n t) t part-step cs q) (same-last n (partBefore n t) t part-step cs q)
 
 module _ {n : ℕ} {t u : StepLists} (a : AgreeBelow n t u) where
   part-same : (i : ℕ) → i < n → stepIn (partBefore n t) i ≡ stepIn (partBefore n u) i

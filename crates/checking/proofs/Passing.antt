@@ -16,7 +16,7 @@ use Rattle.meaning.specs.Lists.{all, below}
 use Rattle.meaning.specs.Credentials.{Credential, credentialAt}
 use Rattle.meaning.specs.Proofs.{Step, Shown, nothing, keeps, showing, shownBy, allKeep, Proof}
 use Rattle.meaning.proofs.Tests.{and-in, and-left, and-right, is-true, is-false, eq-in}
-use Rattle.file.specs.Refusals.{Row, done, refused, first}
+use Rattle.file.specs.Refusals.{RefusalRow, done, refused, first}
 use Rattle.file.specs.declared.Refusal.{Refusal}
 use Rattle.file.specs.Values.{firstRefusal}
 use Rattle.file.specs.Format.{credentials}
@@ -226,12 +226,12 @@ module _ (f : List ℕ) (q : Request) (t : StepLists) (n : ℕ) where
   abbrev number : ℕ → Bool
   number k = leb 1 k && leb k 16 && not (eqb k 10) && not (eqb k 13)
 
-  rows-number : (l : List ℕ) → T (all (λ (r : Row). number (r .number)) (map (stepRow (credentials f) (q .minute) (partBefore n t)) l))
+  rows-number : (l : List ℕ) → T (all (λ (r : RefusalRow). number (r .number)) (map (stepRow (credentials f) (q .minute) (partBefore n t)) l))
   rows-number [] = tt
   rows-number (i ∷ l) = rows-number l
 
-  proof-numbers : T (all (λ (r : Row). number (r .number)) (proofRows (credentials f) q t n))
-  proof-numbers = all-append (λ (r : Row). number (r .number)) (map (stepRow (credentials f) (q .minute) (partBefore n t)) (below n)) (lastRow (credentials f) q (partBefore n t) n ∷ []) (rows-number (below n)) tt
+  proof-numbers : T (all (λ (r : RefusalRow). number (r .number)) (proofRows (credentials f) q t n))
+  proof-numbers = all-append (λ (r : RefusalRow). number (r .number)) (map (stepRow (credentials f) (q .minute) (partBefore n t)) (below n)) (lastRow (credentials f) q (partBefore n t) n ∷ []) (rows-number (below n)) tt
 
   abbrev Numbered : ℕ → Type 0
   Numbered k = (1 ≤ k) × (k ≤ 16) × (k ≡ 10 → ⊥) × (k ≡ 13 → ⊥)

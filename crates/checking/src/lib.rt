@@ -2,10 +2,11 @@
 ghost use mathlib.Core.Path.{_≡_};
 ghost use Prim.Native.Nat.{_<_, _≤_};
 ghost use lib.ListN.{length};
+ghost use Rattle.file.specs.Refusals.{refused};
 ghost use Rattle.policy.specs.Policy.{credentialsOf};
 ghost use Rattle.asking.specs.Asking.{request, stepLists, stepIn};
 ghost use Rattle.steps.specs.Steps.{stepOf};
-ghost use Rattle.checking.specs.Checking.{checking, says};
+ghost use Rattle.checking.specs.Checking.{checking, saysChecked};
 ghost use Rattle.checking.specs.Walks.{Walkable, Walked, concluding};
 use steps::Step;
 
@@ -27,7 +28,7 @@ pub fn check(
     sets: &[u32],
     steps: usize,
 ) -> Checked
-    ensures { λ r. ⌜ says r ≡ checking (now (file .entry)) (request role set minute) (stepLists (now (credential .entry)) (now (first .entry)) (now (second .entry)) (now (sets .entry))) steps ⌝ }
+    ensures { λ r. ⌜ saysChecked r ≡ checking (now (file .entry)) (request role set minute) (stepLists (now (credential .entry)) (now (first .entry)) (now (second .entry)) (now (sets .entry))) steps ⌝ }
 {
     let mut policy = policy::room();
     let j = asking::judge(
@@ -42,16 +43,10 @@ pub fn check(
         sets,
     );
     if j.number != 0 {
-        return Checked::Refused {
-            number: j.number,
-            place: j.place,
-        };
+        return refused(j.number, j.place);
     }
     if !((1 <= steps) & (steps <= credential.len())) {
-        return Checked::Refused {
-            number: 14,
-            place: 0,
-        };
+        return refused(14, 0);
     }
     let mut roles = room();
     let mut levels = room();
@@ -130,7 +125,7 @@ fn conclude(
     steps: usize,
 ) -> Checked
     requires { ⌜ Walkable n (stepLists (now credential) (now first) (now second) (now sets)) steps (now roles) (now levels) ⌝ ∗ ⌜ 1 ≤ steps ⌝ }
-    ensures { λ r. ⌜ says r ≡ concluding (credentialsOf (now (policy .entry)) n) (request role set minute) (stepLists (now (credential .entry)) (now (first .entry)) (now (second .entry)) (now (sets .entry))) steps ⌝ }
+    ensures { λ r. ⌜ saysChecked r ≡ concluding (credentialsOf (now (policy .entry)) n) (request role set minute) (stepLists (now (credential .entry)) (now (first .entry)) (now (second .entry)) (now (sets .entry))) steps ⌝ }
 {
     let kept = walk(
         roles,
@@ -145,19 +140,19 @@ fn conclude(
         steps,
     );
     if kept < steps {
-        return Checked::Refused {
-            number: 15,
-            place: kept as u32,
-        };
+        return refused(15, kept as u32);
     }
     let last = steps - 1;
     if !((roles[last] == role) & (sets[last] == set)) {
-        return Checked::Refused {
-            number: 16,
-            place: 0,
-        };
+        return refused(16, 0);
     }
     Checked::Level(levels[last])
+}
+
+fn refused(number: u32, place: u32) -> Checked
+    ensures { λ r. ⌜ saysChecked r ≡ refused number place ⌝ }
+{
+    Checked::Refused { number, place }
 }
 
 fn room() -> [u32; 1024]

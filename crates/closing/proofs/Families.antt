@@ -1,5 +1,5 @@
 -- An entry gives by both its families, one after the other.
-use mathlib.Core.Path.{_≡_, refl, _∙_, subst}
+use mathlib.Core.Path.{_≡_, _∙_}
 use mathlib.Core.Logic.{_⊎_, inl, inr}
 use mathlib.Core.List.{List}
 use Prim.Native.Nat.{ℕ, _+_, _%_, _≤_, _<_, zero-le}
@@ -11,6 +11,7 @@ use Rattle.rules.proofs.UseLaws.{first-body, use-family}
 use Rattle.heads.specs.Gaining.{Spanned, Origin, Kept, Gains}
 use Rattle.heads.proofs.Gaining.{gains-by, gains-none, gains-same, gains-over, gains-then}
 use Rattle.closure.specs.Closure.{Held}
+use Rattle.premises.specs.Combining.{InFamily}
 use Rattle.firing.specs.Firing.{Fires, FromFamily}
 use Rattle.firing.proofs.Firings.{fires-before, fires-after, from-family-before}
 use Rattle.closing.specs.Giving.{FiresBoth, FromEntry}
@@ -25,34 +26,54 @@ no-bodies {family} l kept few low q z =
     let w = first-body l family low in
     gains-none kept few (λ k s f. w .none (f .listed .body) (rw (← q, z) zero-le) (f .listed .low .0) (use-family (f .fitting) (f .listed) ∙ f .here))
 
--- the uses of the entry's role, as the code names it, then those of links by its name
-module _ {keys spans slots links notes done : List ℕ} {n i : ℕ} (h : Held keys spans slots links notes done n) (low : i < n) (codes valid lists : List ℕ) {limit d role r : ℕ} {keys′ spans′ slots′ links′ notes′ : List ℕ} (same : role ≡ roleIn (getD keys i 0)) (f : Gains limit keys spans notes n (Fires codes valid lists keys done n i d role) (FromFamily codes lists keys done n i role) keys′ spans′ slots′ links′ notes′ r) where
-  abbrev own : ℕ
-  own = roleIn (getD keys i 0)
+-- The families of an entry are its role and then links by its name. Where links are next, this is what the role gives; before, nothing.
+abbrev pub Earlier : List ℕ → List ℕ → List ℕ → List ℕ → List ℕ → ℕ → ℕ → ℕ → ℕ → Spanned
+Earlier codes valid lists keys done n e d family k s = (1024 ≤ family) × Fires codes valid lists keys done n e d (roleIn (getD keys e 0)) k s
 
-  g : Gains limit keys spans notes n (Fires codes valid lists keys done n i d own) (FromFamily codes lists keys done n i own) keys′ spans′ slots′ links′ notes′ r
-  g = subst (λ (a : ℕ). Gains limit keys spans notes n (Fires codes valid lists keys done n i d a) (FromFamily codes lists keys done n i a) keys′ spans′ slots′ links′ notes′ r) same f
+module _ {keys spans slots links notes done : List ℕ} {n : ℕ} (h : Held keys spans slots links notes done n) (e : ℕ) (low : e < n) (codes valid lists : List ℕ) (d : ℕ) {limit family : ℕ} where
+  pub families-start : n ≤ limit → family ≡ roleIn (getD keys e 0) → Gains limit keys spans notes n (Earlier codes valid lists keys done n e d family) (FromEntry codes lists keys done n e) keys spans slots links notes n
+  families-start few q = gains-none (h .kept) few (λ k s w. let m = h .kept .stored .roles e low in omega (arith, w .0))
 
-  pub gains-first : limit < r → Gains limit keys spans notes n (FiresBoth codes valid lists keys done n i d) (FromEntry codes lists keys done n i) keys′ spans′ slots′ links′ notes′ r
-  gains-first l = gains-over (λ k s. inl) l g
+  module _ {keys′ spans′ slots′ links′ notes′ : List ℕ} {r : ℕ} (g : Gains limit keys spans notes n (Earlier codes valid lists keys done n e d family) (FromEntry codes lists keys done n e) keys′ spans′ slots′ links′ notes′ r) (m : r ≤ limit) (of : InFamily keys e family) {t : ℕ} {keys″ spans″ slots″ links″ notes″ : List ℕ} (l : Gains limit keys′ spans′ notes′ r (Fires codes valid lists keys′ done r e d family) (FromFamily codes lists keys′ done r e family) keys″ spans″ slots″ links″ notes″ t) where
+    abbrev Here : Spanned
+    Here = Fires codes valid lists keys done n e d family
 
-  module _ {t : ℕ} {keys″ spans″ slots″ links″ notes″ : List ℕ} (m : r ≤ limit) (l : Gains limit keys′ spans′ notes′ r (Fires codes valid lists keys′ done r i d (1024 + role % 32)) (FromFamily codes lists keys′ done r i (1024 + role % 32)) keys″ spans″ slots″ links″ notes″ t) where
-    linked : Gains limit keys′ spans′ notes′ r (Fires codes valid lists keys′ done r i d (1024 + own % 32)) (FromFamily codes lists keys′ done r i (1024 + own % 32)) keys″ spans″ slots″ links″ notes″ t
-    linked = subst (λ (a : ℕ). Gains limit keys′ spans′ notes′ r (Fires codes valid lists keys′ done r i d (1024 + a % 32)) (FromFamily codes lists keys′ done r i (1024 + a % 32)) keys″ spans″ slots″ links″ notes″ t) same l
+    abbrev Both : Spanned
+    Both = FiresBoth codes valid lists keys done n e d
 
-    abbrev Later : Spanned
-    Later k s = Fires codes valid lists keys done n i d own k s ⊎ Fires codes valid lists keys′ done r i d (1024 + own % 32) k s
+    both : Gains limit keys spans notes n (λ k s. Earlier codes valid lists keys done n e d family k s ⊎ Here k s) (FromEntry codes lists keys done n e) keys″ spans″ slots″ links″ notes″ t
+    both =
+        gains-then g m
+        (gains-by (λ k at first second w. (family, of, from-family-before done (g .grown m) (h .fresh) e low k at first second w))
+        (gains-same (fires-before done (g .grown m) (h .fresh) e low codes valid lists d family) (fires-after done (g .grown m) (h .fresh) e low codes valid lists d family) l))
 
-    to : (k s : ℕ) → Later k s → FiresBoth codes valid lists keys done n i d k s
-    to k s (inl w) = inl w
-    to k s (inr w) = inr (fires-before done (g .grown m) (h .fresh) i low codes valid lists d (1024 + own % 32) k s w)
+    here : InFamily keys e family → (k s : ℕ) → Here k s → Both k s
+    here (inl q) k s w = inl (rw q at w)
+    here (inr q) k s w = inr (rw q at w)
 
-    from : (k s : ℕ) → FiresBoth codes valid lists keys done n i d k s → Later k s
-    from k s (inl w) = inl w
-    from k s (inr w) = inr (fires-after done (g .grown m) (h .fresh) i low codes valid lists d (1024 + own % 32) k s w)
+    to : (k s : ℕ) → Earlier codes valid lists keys done n e d family k s ⊎ Here k s → Both k s
+    to k s (inl w) = inl (w .1)
+    to k s (inr w) = here of k s w
 
-    pub gains-both : Gains limit keys spans notes n (FiresBoth codes valid lists keys done n i d) (FromEntry codes lists keys done n i) keys″ spans″ slots″ links″ notes″ t
-    gains-both =
-        gains-same to from
-        (gains-then (gains-by (λ k at first second w. (own, inl refl, w)) g) m
-        (gains-by (λ k at first second w. (1024 + own % 32, inr refl, from-family-before done (g .grown m) (h .fresh) i low k at first second w)) linked))
+    -- too many already
+    pub families-over : limit < t → Gains limit keys spans notes n Both (FromEntry codes lists keys done n e) keys″ spans″ slots″ links″ notes″ t
+    families-over o = gains-over to o both
+
+    -- after the second family
+    pub families-end : family ≡ 1024 + roleIn (getD keys e 0) % 32 → Gains limit keys spans notes n Both (FromEntry codes lists keys done n e) keys″ spans″ slots″ links″ notes″ t
+    families-end q = gains-same to from both
+      where
+        from : (k s : ℕ) → Both k s → Earlier codes valid lists keys done n e d family k s ⊎ Here k s
+        from k s (inl w) = inl (omega arith, w)
+        from k s (inr w) = inr (rw q w)
+
+    -- after the first
+    pub families-next : {next : ℕ} → 1024 ≤ next → family ≡ roleIn (getD keys e 0) → Gains limit keys spans notes n (Earlier codes valid lists keys done n e d next) (FromEntry codes lists keys done n e) keys″ spans″ slots″ links″ notes″ t
+    families-next {next} o q = gains-same into from both
+      where
+        into : (k s : ℕ) → Earlier codes valid lists keys done n e d family k s ⊎ Here k s → Earlier codes valid lists keys done n e d next k s
+        into k s (inl w) = (o, w .1)
+        into k s (inr w) = (o, rw q at w)
+
+        from : (k s : ℕ) → Earlier codes valid lists keys done n e d next k s → Earlier codes valid lists keys done n e d family k s ⊎ Here k s
+        from k s w = inr (rw q (w .1))

@@ -64,7 +64,7 @@ module _ {keys spans slots links notes done : List ℕ} {n : ℕ} (h : Held keys
   pub done-held : Held keys spans slots links notes done′ n
   done-held = record { kept = h .kept; room = simp length-set (h .room); fresh = done-fresh }
 
-  pub done-firing : {m limit : ℕ} → LastDone done v → Firing keys done′ n (record { limit = limit; e = i; last = v .last; spans = m })
+  pub done-firing : {m limit : ℕ} → LastDone done v → Firing done′ n (record { limit = limit; e = i; last = v .last; spans = m })
   done-firing last =
       record {
         low = low;

@@ -2,4 +2,4 @@ pub mod Falling
 pub mod Premises
 pub mod Families
 pub mod Giving
-pub mod Turning
+pub mod Passes

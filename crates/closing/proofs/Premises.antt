@@ -1,6 +1,7 @@
 -- What the uses of a statement give is what the statement gives; and what it gives from a new premise is given by a use.
 use mathlib.Core.Path.{_≡_, refl, sym, ap, _∙_, subst}
 use mathlib.Core.Logic.{_⊎_, inl, inr}
+use mathlib.Core.Bool.{true, false}
 use mathlib.Core.List.{List, List·Memᴰ as Mem}
 use Prim.Native.Nat.{ℕ, suc, _+_, _*_, _/_, _%_, _^_, _<_, max}
 use native.Mathlib.Nat.{le-max-left, le-max-right}
@@ -63,28 +64,32 @@ module _ {P G : Relation} {e X : ℕ} (f : Within P G) (own : G (roleIn e) (setI
   by-product-second (disjoint Y q p z x) = (Y, setIn e, f _ _ p, rw (← q) own, and-comm Y (setIn e) ∙ z, x ∙ or-comm (setIn e) Y)
 
   pub use-gives : (body : Body) (head : ℕ) (u : Use) → ((v : Use) → UsedBy body head v → Fitting v) → UsedBy body head u → By P e X u → Gives G G body X
-  use-gives (set Y) head u fit w c = absurd w
-  use-gives (role Bs) head u fit w c = by-role (subst (By P e X) w c)
-  use-gives (link Bs t) head u fit (inl w) c = by-link (fit (useOf (1024 + t) 2 Bs head) (inr refl) .other) (subst (By P e X) w c)
-  use-gives (link Bs t) head u fit (inr w) c = by-name t (subst (By P e X) w c)
-  use-gives (Bs ∩ Ct) head u fit (inl w) c = by-first (subst (By P e X) w c)
-  use-gives (Bs ∩ Ct) head u fit (inr w) c = by-second (subst (By P e X) w c)
-  use-gives (Bs ⊙ Ct) head u fit (inl w) c = by-union (subst (By P e X) w c)
-  use-gives (Bs ⊙ Ct) head u fit (inr w) c = by-union-second (subst (By P e X) w c)
-  use-gives (Bs ⊗ Ct) head u fit (inl w) c = by-product (subst (By P e X) w c)
-  use-gives (Bs ⊗ Ct) head u fit (inr w) c = by-product-second (subst (By P e X) w c)
+  use-gives (set Y) head u fit (false, w) c = absurd w
+  use-gives (set Y) head u fit (true, w) c = absurd w
+  use-gives (role Bs) head u fit (false, w) c = by-role (subst (By P e X) w c)
+  use-gives (role Bs) head u fit (true, w) c = absurd w
+  use-gives (link Bs t) head u fit (false, w) c = by-link (fit (useOf (1024 + t) 2 Bs head) (true, refl) .other) (subst (By P e X) w c)
+  use-gives (link Bs t) head u fit (true, w) c = by-name t (subst (By P e X) w c)
+  use-gives (Bs ∩ Ct) head u fit (false, w) c = by-first (subst (By P e X) w c)
+  use-gives (Bs ∩ Ct) head u fit (true, w) c = by-second (subst (By P e X) w c)
+  use-gives (Bs ⊙ Ct) head u fit (false, w) c = by-union (subst (By P e X) w c)
+  use-gives (Bs ⊙ Ct) head u fit (true, w) c = by-union-second (subst (By P e X) w c)
+  use-gives (Bs ⊗ Ct) head u fit (false, w) c = by-product (subst (By P e X) w c)
+  use-gives (Bs ⊗ Ct) head u fit (true, w) c = by-product-second (subst (By P e X) w c)
 
 pub use-head : (body : Body) (head : ℕ) (u : Use) → UsedBy body head u → u .head ≡ head
-use-head (set Y) head u w = absurd w
-use-head (role Bs) head u w = ap (λ (v : Use). v .head) w
-use-head (link Bs t) head u (inl w) = ap (λ (v : Use). v .head) w
-use-head (link Bs t) head u (inr w) = ap (λ (v : Use). v .head) w
-use-head (Bs ∩ Ct) head u (inl w) = ap (λ (v : Use). v .head) w
-use-head (Bs ∩ Ct) head u (inr w) = ap (λ (v : Use). v .head) w
-use-head (Bs ⊙ Ct) head u (inl w) = ap (λ (v : Use). v .head) w
-use-head (Bs ⊙ Ct) head u (inr w) = ap (λ (v : Use). v .head) w
-use-head (Bs ⊗ Ct) head u (inl w) = ap (λ (v : Use). v .head) w
-use-head (Bs ⊗ Ct) head u (inr w) = ap (λ (v : Use). v .head) w
+use-head (set Y) head u (false, w) = absurd w
+use-head (set Y) head u (true, w) = absurd w
+use-head (role Bs) head u (false, w) = ap (λ (v : Use). v .head) w
+use-head (role Bs) head u (true, w) = absurd w
+use-head (link Bs t) head u (false, w) = ap (λ (v : Use). v .head) w
+use-head (link Bs t) head u (true, w) = ap (λ (v : Use). v .head) w
+use-head (Bs ∩ Ct) head u (false, w) = ap (λ (v : Use). v .head) w
+use-head (Bs ∩ Ct) head u (true, w) = ap (λ (v : Use). v .head) w
+use-head (Bs ⊙ Ct) head u (false, w) = ap (λ (v : Use). v .head) w
+use-head (Bs ⊙ Ct) head u (true, w) = ap (λ (v : Use). v .head) w
+use-head (Bs ⊗ Ct) head u (false, w) = ap (λ (v : Use). v .head) w
+use-head (Bs ⊗ Ct) head u (true, w) = ap (λ (v : Use). v .head) w
 
 -- both premises at the higher of their levels
 module _ (ss : List Statement) where
@@ -127,48 +132,48 @@ module _ {P Q : Relation} (e : ℕ) (New : Type 0) (split : (Ar X : ℕ) → P A
     where
       go : Q Bs X ⊎ (New × (roleIn e ≡ Bs) × (setIn e ≡ X)) → Or (role Bs)
       go (inl q) = inl q
-      go (inr (w, a, x)) = inr (w, record { which = useOf Bs 1 0 head; used = refl; family = inl (sym a); by = inclusion a (sym x) })
+      go (inr (w, a, x)) = inr (w, record { which = useOf Bs 1 0 head; used = (false, refl); family = inl (sym a); by = inclusion a (sym x) })
 
   or-link : (Bs t C : ℕ) → t < 32 → P Bs (2 ^ C) → P (C · t) X → Or (link Bs t)
   or-link Bs t C l p q = go (split Bs (2 ^ C) p) (split (C · t) X q)
     where
       go : Q Bs (2 ^ C) ⊎ (New × (roleIn e ≡ Bs) × (setIn e ≡ 2 ^ C)) → Q (C · t) X ⊎ (New × (roleIn e ≡ C · t) × (setIn e ≡ X)) → Or (link Bs t)
       go (inl a) (inl b) = inl (C, a, b)
-      go (inr (w, a, x)) b = inr (w, record { which = useOf Bs 2 t head; used = inl refl; family = inl (sym a); by = linking C a x q })
+      go (inr (w, a, x)) b = inr (w, record { which = useOf Bs 2 t head; used = (false, refl); family = inl (sym a); by = linking C a x q })
       go (inl a) (inr (w, b, x)) =
           let m : 1024 + roleIn e % 32 ≡ 1024 + t = omega arith in
           let k : roleIn e / 32 ≡ C = omega arith in
-          inr (w, record { which = useOf (1024 + t) 2 Bs head; used = inr refl; family = inr (sym m); by = linked {Bs = Bs} m (rw k p) (sym x) })
+          inr (w, record { which = useOf (1024 + t) 2 Bs head; used = (true, refl); family = inr (sym m); by = linked {Bs = Bs} m (rw k p) (sym x) })
 
   or-intersection : (Bs Ct : ℕ) → P Bs X → P Ct X → Or (Bs ∩ Ct)
   or-intersection Bs Ct p q = go (split Bs X p) (split Ct X q)
     where
       go : Q Bs X ⊎ (New × (roleIn e ≡ Bs) × (setIn e ≡ X)) → Q Ct X ⊎ (New × (roleIn e ≡ Ct) × (setIn e ≡ X)) → Or (Bs ∩ Ct)
       go (inl a) (inl b) = inl (a, b)
-      go (inr (w, a, x)) b = inr (w, record { which = useOf Bs 3 Ct head; used = inl refl; family = inl (sym a); by = intersection {other = Ct} a (rw x q) (sym x) })
-      go (inl a) (inr (w, b, x)) = inr (w, record { which = useOf Ct 3 Bs head; used = inr refl; family = inl (sym b); by = intersection {other = Bs} b (rw x p) (sym x) })
+      go (inr (w, a, x)) b = inr (w, record { which = useOf Bs 3 Ct head; used = (false, refl); family = inl (sym a); by = intersection {other = Ct} a (rw x q) (sym x) })
+      go (inl a) (inr (w, b, x)) = inr (w, record { which = useOf Ct 3 Bs head; used = (true, refl); family = inl (sym b); by = intersection {other = Bs} b (rw x p) (sym x) })
 
   or-union : (Bs Ct Y Z : ℕ) → P Bs Y → P Ct Z → X ≡ bitOr Y Z → Or (Bs ⊙ Ct)
   or-union Bs Ct Y Z p q u = go (split Bs Y p) (split Ct Z q)
     where
       go : Q Bs Y ⊎ (New × (roleIn e ≡ Bs) × (setIn e ≡ Y)) → Q Ct Z ⊎ (New × (roleIn e ≡ Ct) × (setIn e ≡ Z)) → Or (Bs ⊙ Ct)
       go (inl a) (inl b) = inl (Y, Z, a, b, u)
-      go (inr (w, a, x)) b = inr (w, record { which = useOf Bs 4 Ct head; used = inl refl; family = inl (sym a); by = union {X = X} Z a q (rw x u) })
-      go (inl a) (inr (w, b, x)) = inr (w, record { which = useOf Ct 4 Bs head; used = inr refl; family = inl (sym b); by = union {X = X} Y b p (rw x (u ∙ or-comm Y Z)) })
+      go (inr (w, a, x)) b = inr (w, record { which = useOf Bs 4 Ct head; used = (false, refl); family = inl (sym a); by = union {X = X} Z a q (rw x u) })
+      go (inl a) (inr (w, b, x)) = inr (w, record { which = useOf Ct 4 Bs head; used = (true, refl); family = inl (sym b); by = union {X = X} Y b p (rw x (u ∙ or-comm Y Z)) })
 
   or-product : (Bs Ct Y Z : ℕ) → P Bs Y → P Ct Z → bitAnd Y Z ≡ 0 → X ≡ bitOr Y Z → Or (Bs ⊗ Ct)
   or-product Bs Ct Y Z p q z u = go (split Bs Y p) (split Ct Z q)
     where
       go : Q Bs Y ⊎ (New × (roleIn e ≡ Bs) × (setIn e ≡ Y)) → Q Ct Z ⊎ (New × (roleIn e ≡ Ct) × (setIn e ≡ Z)) → Or (Bs ⊗ Ct)
       go (inl a) (inl b) = inl (Y, Z, a, b, z, u)
-      go (inr (w, a, x)) b = inr (w, record { which = useOf Bs 5 Ct head; used = inl refl; family = inl (sym a); by = disjoint {X = X} Z a q (rw x z) (rw x u) })
+      go (inr (w, a, x)) b = inr (w, record { which = useOf Bs 5 Ct head; used = (false, refl); family = inl (sym a); by = disjoint {X = X} Z a q (rw x z) (rw x u) })
       go (inl a) (inr (w, b, x)) =
-          inr (w, record { which = useOf Ct 5 Bs head; used = inr refl; family = inl (sym b); by = disjoint {X = X} Y b p (rw x (and-comm Z Y ∙ z)) (rw x (u ∙ or-comm Y Z)) })
+          inr (w, record { which = useOf Ct 5 Bs head; used = (true, refl); family = inl (sym b); by = disjoint {X = X} Y b p (rw x (and-comm Z Y ∙ z)) (rw x (u ∙ or-comm Y Z)) })
 
   pub gives-or : (body : Body) → ((v : Use) → UsedBy body head v → Fitting v) → Gives P P body X → Or body
   gives-or (set Y) fit q = inl q
   gives-or (role Bs) fit p = or-role Bs p
-  gives-or (link Bs t) fit (C, p, q) = or-link Bs t C (let l = fit (useOf (1024 + t) 2 Bs head) (inr refl) .family in omega arith) p q
+  gives-or (link Bs t) fit (C, p, q) = or-link Bs t C (let l = fit (useOf (1024 + t) 2 Bs head) (true, refl) .family in omega arith) p q
   gives-or (Bs ∩ Ct) fit (p, q) = or-intersection Bs Ct p q
   gives-or (Bs ⊙ Ct) fit (Y, Z, p, q, u) = or-union Bs Ct Y Z p q u
   gives-or (Bs ⊗ Ct) fit (Y, Z, p, q, z, u) = or-product Bs Ct Y Z p q z u

@@ -49,7 +49,7 @@ pub record Gave (codes valid lists keys spans notes done : List ℕ) (n : ℕ) (
   pub noted : r ≤ v .limit → Noted notes n (FromEntry codes lists keys done′ n (v .e)) keys′ notes′ r
 
 -- some entries gave, if any
-pub record Turned (limit : ℕ) (codes valid lists keys spans done : List ℕ) (n : ℕ) (any : Bool) (keys′ spans′ slots′ links′ notes′ done′ : List ℕ) (r : ℕ) (any′ : Bool) : Type 0 where
+pub record GaveAny (limit : ℕ) (codes valid lists keys spans done : List ℕ) (n : ℕ) (any : Bool) (keys′ spans′ slots′ links′ notes′ done′ : List ℕ) (r : ℕ) (any′ : Bool) : Type 0 where
   pub closes : Closes limit codes valid lists keys spans done n keys′ spans′ slots′ links′ notes′ done′ r
   pub less : r ≤ limit → lefts spans′ done′ limit + digit any′ ≤ lefts spans done limit + digit any
 

@@ -9,7 +9,7 @@ ghost use Rattle.heads.specs.Gaining.{Gains};
 ghost use Rattle.closure.specs.Closure.{Held, Finished};
 ghost use Rattle.premises.specs.Moves.{Firing};
 ghost use Rattle.closing.specs.Closing.{Closes};
-ghost use Rattle.closing.specs.Giving.{LastDone, FiresBoth, FromEntry, Gave, Turned, Still};
+ghost use Rattle.closing.specs.Giving.{LastDone, FiresBoth, FromEntry, Gave, GaveAny, Still};
 use premises::Turn;
 
 // Entry e is to give. `last` says that no entry after it is done yet; false is always right. A new entry past the limit is not added.
@@ -47,7 +47,7 @@ pub fn close(
     let mut any = true;
     let mut last = true;
     while any {
-        let t = turn(
+        let p = pass(
             keys,
             spans,
             slots,
@@ -61,8 +61,8 @@ pub fn close(
             limit,
             last,
         );
-        r = t.entries;
-        any = t.any;
+        r = p.entries;
+        any = p.any;
         if limit < r {
             return r;
         }
@@ -127,68 +127,40 @@ fn fire_both(
     n: usize,
     t: Turn,
 ) -> usize
-    requires { ⌜ Held (now keys) (now spans) (now slots) (now links) (now notes) (now done) n ⌝ ∗ ⌜ (n ≤ t .limit) × (t .limit ≤ 1024) ⌝ ∗ ⌜ Listed (now codes) (now valid) (now lists) × Formed (now codes) (now lists) ⌝ ∗ ⌜ Firing (now keys) (now done) n t ⌝ }
+    requires { ⌜ Held (now keys) (now spans) (now slots) (now links) (now notes) (now done) n ⌝ ∗ ⌜ (n ≤ t .limit) × (t .limit ≤ 1024) ⌝ ∗ ⌜ Listed (now codes) (now valid) (now lists) × Formed (now codes) (now lists) ⌝ ∗ ⌜ Firing (now done) n t ⌝ }
     ensures { λ r. ⌜ Gains (t .limit) (now (keys .entry)) (now (spans .entry)) (now (notes .entry)) n (FiresBoth (now (codes .entry)) (now (valid .entry)) (now (lists .entry)) (now (keys .entry)) (now (done .entry)) n (t .e) (t .spans)) (FromEntry (now (codes .entry)) (now (lists .entry)) (now (keys .entry)) (now (done .entry)) n (t .e)) (now (keys .exit)) (now (spans .exit)) (now (slots .exit)) (now (links .exit)) (now (notes .exit)) r ⌝ }
 {
     let limit = t.limit;
     let e = t.e;
     let role = store::role_of(keys[e]);
     let name = 1024 + role % 32;
-    let first = rules::first_body(lists, role);
-    let second = rules::first_body(lists, name);
-    if first == 0 {
-        if second == 0 {
-            return n;
+    let mut r = n;
+    let mut family = role;
+    loop {
+        if rules::first_body(lists, family) != 0 {
+            r = firing::fire(
+                keys,
+                spans,
+                slots,
+                links,
+                notes,
+                done,
+                codes,
+                valid,
+                lists,
+                r,
+                t,
+                family,
+            );
+            if limit < r {
+                return r;
+            }
         }
-        return firing::fire(
-            keys,
-            spans,
-            slots,
-            links,
-            notes,
-            done,
-            codes,
-            valid,
-            lists,
-            n,
-            t,
-            name,
-        );
+        if family == name {
+            return r;
+        }
+        family = name;
     }
-    let r = firing::fire(
-        keys,
-        spans,
-        slots,
-        links,
-        notes,
-        done,
-        codes,
-        valid,
-        lists,
-        n,
-        t,
-        role,
-    );
-    if limit < r {
-        return r;
-    }
-    if second == 0 {
-        return r;
-    }
-    firing::fire(
-        keys,
-        spans,
-        slots,
-        links,
-        notes,
-        done,
-        codes,
-        valid,
-        lists,
-        r,
-        t,
-        name,
-    )
 }
 
 // The spans m without those done, which are among them.
@@ -199,7 +171,7 @@ fn not_done(m: u64, done: u64) -> u64
 }
 
 // Every entry whose spans are not all done gives, in order.
-fn turn(
+fn pass(
     keys: &mut [u64; 1024],
     spans: &mut [u64; 1024],
     slots: &mut [u16; 3072],
@@ -214,7 +186,7 @@ fn turn(
     last: bool,
 ) -> Progress
     requires { ⌜ Held (now keys) (now spans) (now slots) (now links) (now notes) (now done) n ⌝ ∗ ⌜ (n ≤ limit) × (limit ≤ 1024) ⌝ ∗ ⌜ Listed (now codes) (now valid) (now lists) × Formed (now codes) (now lists) ⌝ ∗ ⌜ (last ≡ true → (i : ℕ) → getD (now done) i 0 ≡ 0) ⌝ }
-    ensures { λ r. ⌜ Turned limit (now (codes .entry)) (now (valid .entry)) (now (lists .entry)) (now (keys .entry)) (now (spans .entry)) (now (done .entry)) n false (now (keys .exit)) (now (spans .exit)) (now (slots .exit)) (now (links .exit)) (now (notes .exit)) (now (done .exit)) (r .entries) (r .any) ⌝ }
+    ensures { λ r. ⌜ GaveAny limit (now (codes .entry)) (now (valid .entry)) (now (lists .entry)) (now (keys .entry)) (now (spans .entry)) (now (done .entry)) n false (now (keys .exit)) (now (spans .exit)) (now (slots .exit)) (now (links .exit)) (now (notes .exit)) (now (done .exit)) (r .entries) (r .any) ⌝ }
     ensures { λ r. ⌜ (r .any ≡ false → Finished (now (spans .exit)) (now (done .exit)) (r .entries)) ⌝ }
 {
     let mut p = Progress {
@@ -260,7 +232,7 @@ fn give_new(
     v: Visit,
 ) -> Progress
     requires { ⌜ Held (now keys) (now spans) (now slots) (now links) (now notes) (now done) (p .entries) ⌝ ∗ ⌜ (p .entries ≤ v .limit) × (v .limit ≤ 1024) ⌝ ∗ ⌜ Listed (now codes) (now valid) (now lists) × Formed (now codes) (now lists) ⌝ ∗ ⌜ v .e < p .entries ⌝ ∗ ⌜ LastDone (now done) v ⌝ }
-    ensures { λ r. ⌜ Turned (v .limit) (now (codes .entry)) (now (valid .entry)) (now (lists .entry)) (now (keys .entry)) (now (spans .entry)) (now (done .entry)) (p .entries) (p .any) (now (keys .exit)) (now (spans .exit)) (now (slots .exit)) (now (links .exit)) (now (notes .exit)) (now (done .exit)) (r .entries) (r .any) ⌝ }
+    ensures { λ r. ⌜ GaveAny (v .limit) (now (codes .entry)) (now (valid .entry)) (now (lists .entry)) (now (keys .entry)) (now (spans .entry)) (now (done .entry)) (p .entries) (p .any) (now (keys .exit)) (now (spans .exit)) (now (slots .exit)) (now (links .exit)) (now (notes .exit)) (now (done .exit)) (r .entries) (r .any) ⌝ }
     ensures { λ r. ⌜ (r .any ≡ false → (r .entries ≡ p .entries) × Still (now (spans .entry)) (now (done .entry)) (p .any) (v .e) (now (spans .exit)) (now (done .exit))) ⌝ ∗ ⌜ ((i : ℕ) → (i ≡ v .e → ⊥) → getD (now (done .exit)) i 0 ≡ getD (now (done .entry)) i 0) ⌝ }
 {
     let e = v.e;

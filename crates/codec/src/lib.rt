@@ -44,12 +44,6 @@ pub fn encode64(dst: &mut [u8], src: &[u64], n: usize)
     }
 }
 
-fn wide(x: u8) -> u64
-    ensures { λ r. ⌜ (r ≡ x) × (x < 256) ⌝ }
-{
-    x as u64
-}
-
 // The number that at most 8 bytes are.
 fn get(src: &[u8]) -> u64
     requires { ⌜ length (now src) ≤ 8 ⌝ }
@@ -59,7 +53,7 @@ fn get(src: &[u8]) -> u64
     let mut i = src.len();
     while 0 < i {
         i -= 1;
-        number = wide(src[i]) + 256 * number;
+        number = widths::wide8(src[i]) as u64 + 256 * number;
     }
     number
 }

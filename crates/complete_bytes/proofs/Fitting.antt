@@ -13,7 +13,7 @@ use Rattle.meaning.proofs.Tests.{and-left, and-right}
 use Rattle.file.specs.Refusals.{first, _when_}
 use Rattle.file.specs.Format.{credentials}
 use Rattle.file.specs.Reading.{between, reading}
-use Rattle.completing.specs.Completing.{Lent, oneLength, fullRow, replyTo}
+use Rattle.completing.specs.Completing.{Lent, threeOfOneLength, tableFullRow, replyTo}
 use Rattle.codec.proofs.Entries.{length-entries}
 use Rattle.replies.specs.Interface.{notWhole}
 use Rattle.replies.proofs.Refusing.{nine-decides}
@@ -32,7 +32,7 @@ module _ (b : Lent) where
   abbrev pub fit : Bool
   fit = tableFits (length (b .roles)) (length (b .sets)) (length (b .spans))
 
-  fit-is : fit ≡ (wholeLent b && oneLength (lentIn b))
+  fit-is : fit ≡ (wholeLent b && threeOfOneLength (lentIn b))
   fit-is =
       λ j. wholeLent b && (eqb (sym (length-entries 4 (b .sets)) j) (sym (length-entries 4 (b .roles)) j) && eqb (sym (length-entries 8 (b .spans)) j) (sym (length-entries 4 (b .roles)) j) && between 1 1024 (sym (length-entries 4 (b .roles)) j))
 
@@ -57,10 +57,10 @@ module _ (b : Lent) where
 
   pub table-unfit : (f : List ℕ) → fit ≡ false → completeReply f b ≡ notWhole f 0
   unfolding completeReply replyTo
-  table-unfit f h = go (wholeLent b) (oneLength (lentIn b)) (sym fit-is ∙ h)
+  table-unfit f h = go (wholeLent b) (threeOfOneLength (lentIn b)) (sym fit-is ∙ h)
     where
       go : (w o : Bool) → (w && o) ≡ false
-          → if w (first (reading f ++ (9 when (not o) ∷ fullRow f (lentIn b) ∷ [])) (length (table (credentials f)))) (notWhole f 0) ≡ notWhole f 0
+          → if w (first (reading f ++ (9 when (not o) ∷ tableFullRow f (lentIn b) ∷ [])) (length (table (credentials f)))) (notWhole f 0) ≡ notWhole f 0
       go true true e = let z : true ≡ false = e in absurd (subst⁻¹ T (sym z) tt)
-      go true false e = nine-decides (reading f) (fullRow f (lentIn b) ∷ []) (length (table (credentials f))) 0
+      go true false e = nine-decides (reading f) (tableFullRow f (lentIn b) ∷ []) (length (table (credentials f))) 0
       go false o e = refl

@@ -12,7 +12,7 @@ use Rattle.file.specs.Refusals.{Outcome, first, _when_, left}
 use Rattle.file.specs.Format.{credentials}
 use Rattle.file.specs.Reading.{between, reading}
 use Rattle.writing.specs.Columns.{column}
-use Rattle.completing.specs.Completing.{Lent, lent, replyTo, Ending, ending, completing}
+use Rattle.completing.specs.Completing.{Lent, lent, replyTo, TableEnding, tableEnding, completing}
 use Rattle.codec.specs.Bytes.{bytesOf, entries}
 use Rattle.codec.proofs.Entries.{length-entries}
 use Rattle.replies.specs.Interface.{word, notWhole}
@@ -67,14 +67,14 @@ module _ (f : List ℕ) where
     abbrev leftBy : Outcome ℕ → ℕ → Lent
     leftBy o size = lent (left o (t .roles) (columnOf (λ x. x .role) size)) (left o (t .sets) (columnOf (λ x. x .set) size)) (left o (t .spans) (columnOf (λ x. x .spans) size))
 
-    module _ {o : Outcome ℕ} {u : Lent} (q : ending o (u .roles) (u .sets) (u .spans) ≡ completing f t) where
+    module _ {o : Outcome ℕ} {u : Lent} (q : tableEnding o (u .roles) (u .sets) (u .spans) ≡ completing f t) where
       reply : replyTo f t ≡ o
       unfolding completing
-      reply = sym (ap (λ (e : Ending). e .reply) q)
+      reply = sym (ap (λ (e : TableEnding). e .reply) q)
 
       entries-left : u ≡ leftBy o n
       unfolding completing
-      entries-left = ap (λ (e : Ending). e .lists) q ∙ ap₂ leftBy reply r
+      entries-left = ap (λ (e : TableEnding). e .lists) q ∙ ap₂ leftBy reply r
 
   -- in lists of 1,024 places, of which the first n are lent
   module _ (b : Lent) (n : ℕ) (z : TableSizes b n) (x y v : List ℕ) (lx : length x ≡ 1024) (ly : length y ≡ 1024) (lv : length v ≡ 1024) where
@@ -84,7 +84,7 @@ module _ (f : List ℕ) where
         (left o (b .spans) (bytesOf 8 (columnOf (λ x. x .spans) size)))
 
     pub completed : {o : Outcome ℕ} {u : Lent} → length (u .roles) ≡ length (take n x) → length (u .sets) ≡ length (take n y) → length (u .spans) ≡ length (take n v)
-        → ending o (u .roles) (u .sets) (u .spans) ≡ completing f (lent (take n x) (take n y) (take n v))
+        → tableEnding o (u .roles) (u .sets) (u .spans) ≡ completing f (lent (take n x) (take n y) (take n v))
         → {r : ℕ} → r ≡ word (λ n. n) o → {m : ℕ} → m ≡ if (writes o) n 0 → {l : Lent}
         → l .roles ≡ bytesOf 4 (take m (u .roles ++ drop n x)) ++ drop (4 * m) (b .roles)
         → l .sets ≡ bytesOf 4 (take m (u .sets ++ drop n y)) ++ drop (4 * m) (b .sets)

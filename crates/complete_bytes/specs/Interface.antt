@@ -7,7 +7,7 @@ use Rattle.meaning.specs.Table.{table}
 use Rattle.file.specs.Refusals.{Outcome, left}
 use Rattle.file.specs.Format.{credentials}
 use Rattle.writing.specs.Columns.{column}
-use Rattle.completing.specs.Completing.{Lent, lent, replyTo, Ending, ending}
+use Rattle.completing.specs.Completing.{Lent, lent, replyTo, TableEnding, tableEnding}
 use Rattle.codec.specs.Bytes.{bytesOf, entries, whole}
 use Rattle.replies.specs.Interface.{notWhole, entryCount}
 
@@ -21,9 +21,9 @@ unfoldable pub completeReply : List ℕ → Lent → Outcome ℕ
 completeReply f b = if (wholeLent b) (replyTo f (lentIn b)) (notWhole f 0)
 
 -- the reply and the bytes as the call leaves them
-unfoldable pub completeBytes : List ℕ → Lent → Ending
+unfoldable pub completeBytes : List ℕ → Lent → TableEnding
 completeBytes f b =
-    ending (completeReply f b)
+    tableEnding (completeReply f b)
     (left (completeReply f b) (b .roles) (bytesOf 4 (column (λ x. x .role) (entryCount (b .roles)) (table (credentials f)))))
     (left (completeReply f b) (b .sets) (bytesOf 4 (column (λ x. x .set) (entryCount (b .roles)) (table (credentials f)))))
     (left (completeReply f b) (b .spans) (bytesOf 8 (column (λ x. x .spans) (entryCount (b .roles)) (table (credentials f)))))

@@ -2,7 +2,7 @@
 ghost use mathlib.Core.Path.{_≡_};
 ghost use lib.ListN.{length};
 ghost use Rattle.meaning.specs.Lists.{if};
-ghost use Rattle.completing.specs.Completing.{lent, says};
+ghost use Rattle.completing.specs.Completing.{lent, saysCompleted};
 ghost use Rattle.replies.specs.Interface.{word};
 ghost use Rattle.replies.specs.Replies.{writes};
 ghost use Rattle.complete_bytes.specs.Interface.{completeBytes};
@@ -42,7 +42,7 @@ pub fn complete(roles: &mut [u8], sets: &mut [u8], spans: &mut [u8], file: &[u8]
 
 // How many of n entries completing wrote or cleared.
 fn changed(answer: Completed, n: usize) -> usize
-    ensures { λ r. ⌜ r ≡ if (writes (says answer)) n 0 ⌝ }
+    ensures { λ r. ⌜ r ≡ if (writes (saysCompleted answer)) n 0 ⌝ }
 {
     match answer {
         Completed::Memberships(_) => n,
@@ -51,7 +51,7 @@ fn changed(answer: Completed, n: usize) -> usize
 }
 
 fn number_of(answer: Completed) -> u64
-    ensures { λ r. ⌜ r ≡ word (λ n. n) (says answer) ⌝ }
+    ensures { λ r. ⌜ r ≡ word (λ n. n) (saysCompleted answer) ⌝ }
 {
     match answer {
         Completed::Memberships(count) => count as u64,

@@ -1,3 +1,3 @@
-pub mod Tables
-pub mod Working
 pub mod Replies
+pub mod Refusals
+pub mod Claims

@@ -17,12 +17,14 @@ use Rattle.file.specs.Reading.{between, read}
 use Rattle.file.specs.Conditions.{Refused, short, limits, wrongLength, kind, range, unused, period, tooManyEnds}
 use Rattle.file.proofs.Refusals.{Verdict, verdict, accepted-read, refused-read}
 use Rattle.policy.specs.Policy.{credentialsOf}
-use Rattle.ends.specs.Ends.{padded, Surveyed, endsRead}
-use Rattle.ends.specs.declared.Summary.{Summary}
-use Rattle.ends.proofs.Answers.{survey-refused, survey-passed}
+use Rattle.survey.specs.Ends.{padded, endsRead}
+use Rattle.survey.specs.Surveying.{Surveyed}
+use Rattle.survey.specs.declared.Summary.{Summary}
+use Rattle.survey.proofs.Outcomes.{survey-refused, survey-passed}
 use Rattle.writing.specs.Columns.{column}
-use Rattle.completing.specs.Completing.{Lent, lentRow, fullRow, replyTo, Ending, ending, completing}
-use Rattle.completing.specs.Working.{lastReply, endingBy, lastEnding, Worked, Loadable}
+use Rattle.tabling.specs.Tabling.{Worked, Loadable}
+use Rattle.completing.specs.Completing.{Lent, lentRow, tableFullRow, replyTo, TableEnding, tableEnding, completing}
+use Rattle.completing.specs.Working.{lastReply, endingBy, lastEnding}
 
 -- the refusals of a file are 1 to 8
 low : {f : List ℕ} {n p : ℕ} → Refused f n p → n ≤ 8
@@ -57,9 +59,9 @@ module _ (f : List ℕ) (t : Lent) where
   unfolding completing
   by-reply o e = sym (ap (endingBy (credentials f) t) e)
 
-  kept : (n p : ℕ) → n ≤ 9 → replyTo f t ≡ refused n p → ending (refused n p) (t .roles) (t .sets) (t .spans) ≡ completing f t
+  kept : (n p : ℕ) → n ≤ 9 → replyTo f t ≡ refused n p → tableEnding (refused n p) (t .roles) (t .sets) (t .spans) ≡ completing f t
   kept n p h e =
-      (λ i. ending (refused n p) (sym (left-kept n p (t .roles) (column (λ x. x .role) size rows) h) i) (sym (left-kept n p (t .sets) (column (λ x. x .set) size rows) h) i)
+      (λ i. tableEnding (refused n p) (sym (left-kept n p (t .roles) (column (λ x. x .role) size rows) h) i) (sym (left-kept n p (t .sets) (column (λ x. x .set) size rows) h) i)
       (sym (left-kept n p (t .spans) (column (λ x. x .spans) size rows) h) i))
       ∙ by-reply (refused n p) e
 
@@ -67,20 +69,20 @@ module _ (f : List ℕ) (t : Lent) where
   fitting = eqb (length (t .sets)) size && eqb (length (t .spans)) size && between 1 1024 size
 
   module _ (p es : List ℕ) (s : Summary) (found : Surveyed f p es s) where
-    pub refused-ending : (s .number ≡ 0 → ⊥) → ending (refused (s .number) (s .place)) (t .roles) (t .sets) (t .spans) ≡ completing f t
+    pub refused-ending : (s .number ≡ 0 → ⊥) → tableEnding (refused (s .number) (s .place)) (t .roles) (t .sets) (t .spans) ≡ completing f t
     unfolding replyTo
     refused-ending h =
-        kept (s .number) (s .place) (omega (arith, found .number, lowest)) (survey-refused f p es s found h (lentRow t ∷ fullRow f t ∷ []) (length rows))
+        kept (s .number) (s .place) (omega (arith, found .number, lowest)) (survey-refused f p es s found h (lentRow t ∷ tableFullRow f t ∷ []) (length rows))
       where
         lowest : numberOf (endsRead f) ≤ 8
         lowest = read-low f _
 
     module _ (none : s .number ≡ 0) where
-      passed : replyTo f t ≡ first (lentRow t ∷ fullRow f t ∷ []) (length rows)
+      passed : replyTo f t ≡ first (lentRow t ∷ tableFullRow f t ∷ []) (length rows)
       unfolding replyTo
-      passed = survey-passed f p es s found none (lentRow t ∷ fullRow f t ∷ []) (length rows)
+      passed = survey-passed f p es s found none (lentRow t ∷ tableFullRow f t ∷ []) (length rows)
 
-      pub nine-ending : fitting ≡ false → ending (refused 9 0) (t .roles) (t .sets) (t .spans) ≡ completing f t
+      pub nine-ending : fitting ≡ false → tableEnding (refused 9 0) (t .roles) (t .sets) (t .spans) ≡ completing f t
       nine-ending e = kept 9 0 (omega arith) (passed ∙ rw e refl)
 
       abbrev cs : List Credential
@@ -110,7 +112,7 @@ module _ (f : List ℕ) (t : Lent) where
               small = lengths .2;
             }
 
-        pub last-ending : {x : Ending} → x ≡ lastEnding cs t → x ≡ completing f t
+        pub last-ending : {x : TableEnding} → x ≡ lastEnding cs t → x ≡ completing f t
         last-ending e = e ∙ ap (λ (y : List Credential). lastEnding y t) same ∙ by-reply (lastReply (credentials f) t) (passed ∙ rw fits refl)
 
 -- ---- lists of one length
@@ -118,19 +120,19 @@ module _ (f : List ℕ) (t : Lent) where
 module _ (cs : List Credential) (t : Lent) {roles sets spans : List ℕ} {r : ℕ} (w : Worked cs (length (t .roles)) roles sets spans r) (same : length roles ≡ length (t .roles)) where
   -- the lists were cleared after too many memberships
   pub over-ending : length roles < r → length sets ≡ length (t .sets) → length spans ≡ length (t .spans) → {roles′ sets′ spans′ : List ℕ} → roles′ ≡ replicate (length roles) 0
-      → sets′ ≡ replicate (length sets) 0 → spans′ ≡ replicate (length spans) 0 → ending (refused 10 0) roles′ sets′ spans′ ≡ lastEnding cs t
+      → sets′ ≡ replicate (length sets) 0 → spans′ ≡ replicate (length spans) 0 → tableEnding (refused 10 0) roles′ sets′ spans′ ≡ lastEnding cs t
   over-ending h k l a b c =
-      (λ i. ending (refused 10 0) ((a ∙ ap (λ (n : ℕ). replicate n 0) same) i) ((b ∙ ap (λ (n : ℕ). replicate n 0) k) i) ((c ∙ ap (λ (n : ℕ). replicate n 0) l) i))
+      (λ i. tableEnding (refused 10 0) ((a ∙ ap (λ (n : ℕ). replicate n 0) same) i) ((b ∙ ap (λ (n : ℕ). replicate n 0) k) i) ((c ∙ ap (λ (n : ℕ). replicate n 0) l) i))
       ∙ ap (endingBy cs t) (sym reply)
     where
       reply : lastReply cs t ≡ refused 10 0
       reply = rw (lt-ltb (length (t .roles)) (length (table cs)) (w .over (omega (arith, same)))) refl
 
   -- the lists hold the table
-  pub table-ending : r ≤ length roles → ending (done r) roles sets spans ≡ lastEnding cs t
+  pub table-ending : r ≤ length roles → tableEnding (done r) roles sets spans ≡ lastEnding cs t
   table-ending h =
       let l : r ≤ length (t .roles) = omega (arith, same) in
-      (λ i. ending (done (w .count l i)) (w .byRole l i) (w .bySet l i) (w .bySpans l i)) ∙ ap (endingBy cs t) (sym (reply l))
+      (λ i. tableEnding (done (w .count l i)) (w .byRole l i) (w .bySet l i) (w .bySpans l i)) ∙ ap (endingBy cs t) (sym (reply l))
     where
       reply : r ≤ length (t .roles) → lastReply cs t ≡ done (length (table cs))
       reply l = rw (le-ltb (length (t .roles)) (length (table cs)) (omega (arith, w .count l))) refl

@@ -23,38 +23,38 @@ abbrev pub lent : List ℕ → List ℕ → List ℕ → Lent
 lent roles sets spans = record { roles = roles; sets = sets; spans = spans }
 
 -- the lists are of one length, from 1 to 1,024
-abbrev pub oneLength : Lent → Bool
-oneLength t = eqb (length (t .sets)) (length (t .roles)) && eqb (length (t .spans)) (length (t .roles)) && between 1 1024 (length (t .roles))
+abbrev pub threeOfOneLength : Lent → Bool
+threeOfOneLength t = eqb (length (t .sets)) (length (t .roles)) && eqb (length (t .spans)) (length (t .roles)) && between 1 1024 (length (t .roles))
 
 -- 9: unequal lengths, or L outside 1 to 1,024
-abbrev pub lentRow : Lent → R.Row
-lentRow t = 9 when (not (oneLength t))
+abbrev pub lentRow : Lent → R.RefusalRow
+lentRow t = 9 when (not (threeOfOneLength t))
 
 -- 10: more than L memberships over all minutes
-abbrev pub fullRow : List ℕ → Lent → R.Row
-fullRow f t = 10 when (ltb (length (t .roles)) (length (table (credentials f))))
+abbrev pub tableFullRow : List ℕ → Lent → R.RefusalRow
+tableFullRow f t = 10 when (ltb (length (t .roles)) (length (table (credentials f))))
 
 -- the count of memberships valid at one minute or more
 unfoldable pub replyTo : List ℕ → Lent → Outcome ℕ
-replyTo f t = first (reading f ++ (lentRow t ∷ fullRow f t ∷ [])) (length (table (credentials f)))
+replyTo f t = first (reading f ++ (lentRow t ∷ tableFullRow f t ∷ [])) (length (table (credentials f)))
 
 -- how a call ends: its reply, and the lists as it leaves them
-pub record Ending : Type 0 where
+pub record TableEnding : Type 0 where
   pub reply : Outcome ℕ
   pub lists : Lent
 
-abbrev pub ending : Outcome ℕ → List ℕ → List ℕ → List ℕ → Ending
-ending reply roles sets spans = record { reply = reply; lists = lent roles sets spans }
+abbrev pub tableEnding : Outcome ℕ → List ℕ → List ℕ → List ℕ → TableEnding
+tableEnding reply roles sets spans = record { reply = reply; lists = lent roles sets spans }
 
 -- the memberships ascending by role, then by set, each with all its spans; zeros after the last
-unfoldable pub completing : List ℕ → Lent → Ending
+unfoldable pub completing : List ℕ → Lent → TableEnding
 completing f t =
-    ending (replyTo f t)
+    tableEnding (replyTo f t)
     (left (replyTo f t) (t .roles) (column (λ x. x .role) (length (t .roles)) (table (credentials f))))
     (left (replyTo f t) (t .sets) (column (λ x. x .set) (length (t .roles)) (table (credentials f))))
     (left (replyTo f t) (t .spans) (column (λ x. x .spans) (length (t .roles)) (table (credentials f))))
 
 -- document 01's number and values for each case of the answer
-abbrev pub says : Completed → Outcome ℕ
-says (C.Memberships n) = done n
-says (C.Refused n p) = refused n p
+abbrev pub saysCompleted : Completed → Outcome ℕ
+saysCompleted (C.Memberships n) = done n
+saysCompleted (C.Refused n p) = refused n p

@@ -1,2 +1,3 @@
 pub mod Completing
+pub mod Conditions
 pub mod Working

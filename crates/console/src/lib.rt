@@ -46,21 +46,21 @@ pub fn write_line(line: &[u8; 128], n: usize)
 // Writes a line of one number.
 pub fn print_number(x: u32) {
     let mut line = [0u8; 128];
-    let n = text::number_line(&mut line, x);
+    let n = lines::number_line(&mut line, x);
     write_line(&line, n);
 }
 
 // Writes a line of two numbers.
 pub fn print_pair(x: u32, y: u32) {
     let mut line = [0u8; 128];
-    let n = text::pair_line(&mut line, x, y);
+    let n = lines::pair_line(&mut line, x, y);
     write_line(&line, n);
 }
 
 // Writes a line of `refused`, number, place.
 pub fn print_refusal(number: u32, place: u32) {
     let mut line = [0u8; 128];
-    let n = text::refused_line(&mut line, number, place);
+    let n = lines::refused_line(&mut line, number, place);
     write_line(&line, n);
 }
 

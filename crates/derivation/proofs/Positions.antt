@@ -15,7 +15,7 @@ use Rattle.meaning.proofs.Tests.{and-in, eq-in}
 use Rattle.meaning.proofs.Proofs.{shown-append, keep-append}
 use Rattle.meaning.proofs.Steps.{steps-sound}
 use Rattle.file.proofs.Credentials.{getD-map-lt, length-below, getD-below}
-use Rattle.derivation.specs.Derivation.{Citable, credentialOf, bodyOf, firstBy, secondBy, Holds}
+use Rattle.derivation.specs.Derivation.{Citable, credentialOf, bodyOf, firstBy, secondBy, StepHolds}
 
 up-next : (i n : ℕ) → upFrom i (suc n) ≡ upFrom i n ++ (i + n) ∷ []
 up-next i zero = ap (λ (x : ℕ). x ∷ []) (omega arith)
@@ -51,7 +51,7 @@ module _ (cs : List Credential) (m : ℕ) (step : ℕ → Step) (shown : ℕ →
   cited-at true n j h = map-below-at shown n j nothing h
   cited-at false n j h = refl
 
-  module _ (n : ℕ) (h : Holds cs m step shown n) where
+  module _ (n : ℕ) (h : StepHolds cs m step shown n) where
     abbrev e : Body
     e = bodyOf cs m step shown n
 
@@ -76,7 +76,7 @@ module _ (cs : List Credential) (m : ℕ) (step : ℕ → Step) (shown : ℕ →
         (λ i. record { role = credentialOf cs m step shown n .statement .head; set = step n .set; level = suc (max (first-at i .level) (second-at i .level)) })
         ∙ sym (h .shows)
 
-  pub steps-keep : (n : ℕ) → ((i : ℕ) → i < n → Holds cs m step shown i) → T (allKeep cs m [] (stepsTo n)) × (shownBy cs [] (stepsTo n) ≡ shownTo n)
+  pub steps-keep : (n : ℕ) → ((i : ℕ) → i < n → StepHolds cs m step shown i) → T (allKeep cs m [] (stepsTo n)) × (shownBy cs [] (stepsTo n) ≡ shownTo n)
   steps-keep zero h = (tt, refl)
   steps-keep (suc n) h =
       let r = steps-keep n (λ i l. h i (omega arith)) in
@@ -92,12 +92,12 @@ module _ (cs : List Credential) (m : ℕ) (step : ℕ → Step) (shown : ℕ →
       )
 
   -- each shows a membership of its level
-  pub shown-sound : (n : ℕ) → ((i : ℕ) → i < n → Holds cs m step shown i) → (i : ℕ) → i < n → S (validAt cs m) (shown i .level) (shown i .role) (shown i .set)
+  pub shown-sound : (n : ℕ) → ((i : ℕ) → i < n → StepHolds cs m step shown i) → (i : ℕ) → i < n → S (validAt cs m) (shown i .level) (shown i .role) (shown i .set)
   shown-sound n h i l =
       let r = steps-keep n h in
       let s = steps-sound cs m (stepsTo n) [] (λ j z. absurd (not-suc-le-zero z)) (r .0) i (omega (arith, ap length (r .1), map-below-length shown n)) in
       subst (λ (x : Shown). S (validAt cs m) (x .level) (x .role) (x .set)) (ap (λ (l : List Shown). getD l i nothing) (r .1) ∙ map-below-at shown n i nothing l) s
 
   -- the steps up to n are a proof of what step n shows
-  pub proof-to : (n : ℕ) → ((i : ℕ) → i < suc n → Holds cs m step shown i) → Proof cs m (shown n .role) (shown n .set) (shown n .level) (stepsTo (suc n))
+  pub proof-to : (n : ℕ) → ((i : ℕ) → i < suc n → StepHolds cs m step shown i) → Proof cs m (shown n .role) (shown n .set) (shown n .level) (stepsTo (suc n))
   proof-to n h = let r = steps-keep (suc n) h in record { keeping = r .0; last = (shownTo n, r .1 ∙ map-below-next shown n) }

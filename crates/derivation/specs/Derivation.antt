@@ -1,14 +1,13 @@
--- The entries of a query: memberships at one minute, each with how it was derived; and the form of the proof that querying hands out.
+-- The entries of a query: memberships at one minute, each with how it was derived.
 use mathlib.Core.Path.{_≡_}
 use mathlib.Core.Bool.{Bool, true, false}
-use mathlib.Core.List.{List, [], _++_, map}
-use Prim.Native.Nat.{ℕ, suc, _+_, _-_, _<_, max}
+use mathlib.Core.List.{List}
+use Prim.Native.Nat.{ℕ, suc, _-_, _<_, max}
 use lib.Dec.{T, ltb}
-use lib.ListN.{length, getD, replicate}
+use lib.ListN.{length, getD}
 use Rattle.meaning.specs.Lists.{if}
 use Rattle.meaning.specs.Credentials.{Body, Credential, covers, credentialAt}
-use Rattle.meaning.specs.Members.{Membership, member}
-use Rattle.meaning.specs.Proofs.{Step, Shown, nothing, citesFirst, citesSecond, follows, shownBy, Proof, RestsOn}
+use Rattle.meaning.specs.Proofs.{Step, Shown, nothing, citesFirst, citesSecond, follows}
 use Rattle.store.specs.Entries.{roleIn, setIn}
 use Rattle.store.specs.Notes.{word, levelOf}
 
@@ -35,7 +34,7 @@ module _ (cs : List Credential) (m : ℕ) (step : ℕ → Step) (shown : ℕ →
   secondBy i = if (citesSecond (bodyOf i)) (shown (step i .second)) nothing
 
   -- step i keeps the rules for a proof step at the minute m
-  pub record Holds (i : ℕ) : Type 0 where
+  pub record StepHolds (i : ℕ) : Type 0 where
     pub known : step i .credential < length cs
     pub valid : T (covers (credentialOf i .period) m)
     pub first : Citable (citesFirst (bodyOf i)) i (step i .first)
@@ -54,7 +53,7 @@ shownOf keys notes i = record { role = roleIn (getD keys i 0); set = setIn (getD
 
 -- entry i is derived from entries before it
 pub record Derived (cs : List Credential) (m : ℕ) (keys notes : List ℕ) (i : ℕ) : Type 0 where
-  pub holds : Holds cs m (stepOf keys notes) (shownOf keys notes) i
+  pub holds : StepHolds cs m (stepOf keys notes) (shownOf keys notes) i
   pub firsts : citesFirst (credentialAt cs (word notes i 0) .statement .body) ≡ ltb 0 (word notes i 1)
   pub seconds : citesSecond (credentialAt cs (word notes i 0) .statement .body) ≡ ltb 0 (word notes i 2)
 
@@ -62,19 +61,3 @@ pub record Derived (cs : List Credential) (m : ℕ) (keys notes : List ℕ) (i :
 pub record Derivation (cs : List Credential) (m : ℕ) (keys notes : List ℕ) (n : ℕ) : Type 0 where
   pub derived : (i : ℕ) → i < n → Derived cs m keys notes i
   pub distinct : (i j : ℕ) → i < n → j < n → getD keys i 0 ≡ getD keys j 0 → i ≡ j
-
--- ---- the proof that querying hands out
-
--- the membership that step i shows
-abbrev pub membershipAt : List Credential → List Step → ℕ → Membership
-membershipAt cs ss i = member (getD (shownBy cs [] ss) i nothing .role) (getD (shownBy cs [] ss) i nothing .set)
-
--- Its last step is the queried membership; it has no membership twice and no step that the last one doesn't rest on.
-pub record HandedOut (cs : List Credential) (m Ar X k : ℕ) (ss : List Step) : Type 0 where
-  pub proof : Proof cs m Ar X k ss
-  pub once : (i j : ℕ) → i < length ss → j < length ss → membershipAt cs ss i ≡ membershipAt cs ss j → i ≡ j
-  pub needed : (j : ℕ) → j < length ss → RestsOn cs ss (length ss - 1) j
-
--- a word of each step, then zeros up to n places
-abbrev pub words : (Step → ℕ) → ℕ → List Step → List ℕ
-words field n ss = map field ss ++ replicate (n - length ss) 0

@@ -14,16 +14,15 @@ use lib.Pow.{pow-pos}
 use Rattle.meaning.specs.Lists.{if}
 use Rattle.meaning.specs.Credentials.{Period}
 use Rattle.meaning.specs.Table.{bit, ends, spanCount, extended, intervalsTo, intervals}
-use Rattle.file.specs.declared.Refusal.{Refusal}
-use Rattle.file.specs.Refusals.{Row, Outcome, done, refused, first, numberOf, placeOf, _when_}
+use Rattle.file.specs.Refusals.{Outcome, done, refused, first, numberOf, placeOf, _when_}
 use Rattle.file.specs.Format.{credentials}
-use Rattle.file.specs.Reading.{reading}
-use Rattle.file.proofs.First.{after, first-append, refusal-any, first-clear}
-use Rattle.ends.specs.declared.Summary.{Summary}
-use Rattle.ends.specs.Ends.{padded, endsRead, endsOut, endsIn, Surveyed}
-use Rattle.ends.specs.Intervals.{intervalsOut, joinedTo, intervalsIn}
-use Rattle.ends.proofs.Holds.{padded-length}
-use Rattle.ends.proofs.Surveying.{reading-numbered}
+use Rattle.survey.specs.declared.Summary.{Summary}
+use Rattle.survey.specs.Ends.{padded, endsRead}
+use Rattle.survey.specs.Surveying.{Surveyed}
+use Rattle.survey.proofs.Outcomes.{survey-refused, read-done, survey-passed}
+use Rattle.ends.specs.Ends.{endsOut, endsIn}
+use Rattle.ends.specs.Intervals.{intervalsOut, intervalsIn}
+use Rattle.ends.specs.Joining.{joinedTo}
 
 zeros-after : (k : ℕ) (l : List ℕ) (i : ℕ) → getD (l ++ replicate k 0) i 0 ≡ getD l i 0
 zeros-after zero [] i = refl
@@ -39,35 +38,9 @@ same-intervals es fs e spans (suc n) =
     ap (λ (vs : List Period). if (eqb (bit spans n) 1) (extended vs (getD es n 0) (getD es (suc n) 0)) vs) (same-intervals es fs e spans n)
     ∙ ap₂ (λ (a b : ℕ). if (eqb (bit spans n) 1) (extended (intervalsTo fs spans n) a b) (intervalsTo fs spans n)) (e n) (e (suc n))
 
--- ---- what `survey` leaves
-
 module _ (f p es : List ℕ) (s : Summary) (found : Surveyed f p es s) where
   abbrev all : List ℕ
   all = ends (credentials f)
-
-  -- an answer that has further rows after 1 to 8
-  pub survey-refused : (s .number ≡ 0 → ⊥) → {B : Type 0} (more : List Row) (b : B) → first (reading f ++ more) b ≡ refused (s .number) (s .place)
-  survey-refused h {B} more b =
-      first-append {A = List ℕ} {B = B} (reading f) more all b ∙ go (endsRead f) (found .number) (found .place)
-    where
-      go : (o : Outcome (List ℕ)) → s .number ≡ numberOf o → s .place ≡ placeOf o → after o (first more b) ≡ refused (s .number) (s .place)
-      go (done _) n p = absurd (h n)
-      go (refused _ _) n p = λ j. refused (sym n j) (sym p j)
-
-  module _ (none : s .number ≡ 0) where
-    pub read-done : endsRead f ≡ done all
-    read-done =
-        first-clear (reading f) all (reading-numbered f)
-        (sym (ap (λ (r : Refusal). r .number) (refusal-any (reading f) all)) ∙ sym (found .number) ∙ none)
-
-    pub survey-passed : {B : Type 0} (more : List Row) (b : B) → first (reading f ++ more) b ≡ first more b
-    survey-passed {B} more b =
-        first-append {A = List ℕ} {B = B} (reading f) more all b ∙ ap (λ (o : Outcome (List ℕ)). after {A = List ℕ} {B = B} o (first more b)) read-done
-
-    pub survey-sizes : (s .count ≤ 64) × (length es ≡ 64)
-    survey-sizes =
-        let k = found .few none in
-        (omega (arith, found .count none), ap length (found .ends none) ∙ padded-length all k)
 
   -- ---- the ends
 
@@ -84,7 +57,7 @@ module _ (f p es : List ℕ) (s : Summary) (found : Surveyed f p es s) where
   pub ends-done : s .number ≡ 0 → record { number = 0; place = 0; count = s .count; ends = es } ≡ endsIn f
   unfolding endsIn
   ends-done none =
-      (λ j. record { number = 0; place = 0; count = found .count none j; ends = found .ends none j }) ∙ ap endsOut (sym (read-done none))
+      (λ j. record { number = 0; place = 0; count = found .count none j; ends = found .ends none j }) ∙ ap endsOut (sym (read-done f p es s found none))
 
   -- ---- the intervals
 
@@ -94,7 +67,7 @@ module _ (f p es : List ℕ) (s : Summary) (found : Surveyed f p es s) where
 
     pub intervals-refused : (s .number ≡ 0 → ⊥) → intervalsOut (refused (s .number) (s .place)) ≡ intervalsIn f spans
     unfolding intervalsIn
-    intervals-refused h = ap intervalsOut (sym (survey-refused h (11 when beyond ∷ []) (intervals all spans)))
+    intervals-refused h = ap intervalsOut (sym (survey-refused f p es s found h (11 when beyond ∷ []) (intervals all spans)))
 
     module _ (none : s .number ≡ 0) {count : ℕ} (counted : count ≡ s .count - 1) where
       counts : count ≡ spanCount all
@@ -118,7 +91,7 @@ module _ (f p es : List ℕ) (s : Summary) (found : Surveyed f p es s) where
       unfolding intervalsIn
       intervals-beyond h =
           ap intervalsOut
-          (sym (survey-passed none (11 when beyond ∷ []) (intervals all spans)
+          (sym (survey-passed f p es s found none (11 when beyond ∷ []) (intervals all spans)
           ∙ ap (λ (b : Bool). first {A = List Period} (11 when b ∷ []) (intervals all spans)) (high h)))
 
       same-entries : (i : ℕ) → getD es i 0 ≡ getD all i 0
@@ -129,5 +102,5 @@ module _ (f p es : List ℕ) (s : Summary) (found : Surveyed f p es s) where
       intervals-done z =
           ap (λ (vs : List Period). intervalsOut (done vs)) (same-intervals es all same-entries spans count ∙ ap (intervalsTo all spans) counts)
           ∙ ap intervalsOut
-          (sym (survey-passed none (11 when beyond ∷ []) (intervals all spans)
+          (sym (survey-passed f p es s found none (11 when beyond ∷ []) (intervals all spans)
           ∙ ap (λ (b : Bool). first {A = List Period} (11 when b ∷ []) (intervals all spans)) (low z)))

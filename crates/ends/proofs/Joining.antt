@@ -13,7 +13,8 @@ use Rattle.meaning.specs.Lists.{if}
 use Rattle.meaning.specs.Credentials.{Period}
 use Rattle.meaning.specs.Table.{bit, extended, intervalsTo}
 use Rattle.ends.specs.declared.Interval.{Interval}
-use Rattle.ends.specs.Intervals.{pair, noPair, pairs, joinedTo}
+use Rattle.ends.specs.Intervals.{pair, noPair, pairs}
+use Rattle.ends.specs.Joining.{joinedTo}
 
 abbrev span : ℕ → ℕ → Period
 span e f = record { from = e; until = f }

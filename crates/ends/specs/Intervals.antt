@@ -4,7 +4,7 @@ use Prim.Native.Nat.{ℕ, _-_, _^_}
 use lib.Dec.{leb}
 use lib.ListN.{length, replicate}
 use Rattle.meaning.specs.Credentials.{Period}
-use Rattle.meaning.specs.Table.{ends, spanCount, intervalsTo, intervals}
+use Rattle.meaning.specs.Table.{ends, spanCount, intervals}
 use Rattle.file.specs.Refusals.{Outcome, done, refused, first, _when_}
 use Rattle.file.specs.Format.{credentials}
 use Rattle.file.specs.Reading.{reading}
@@ -33,7 +33,3 @@ intervalsOut (refused n p) = record { number = n; place = p; count = 0; interval
 
 unfoldable pub intervalsIn : List ℕ → ℕ → Intervals
 intervalsIn f spans = intervalsOut (intervalsRead f spans)
-
--- the intervals of the first n spans
-abbrev pub joinedTo : List ℕ → ℕ → ℕ → Intervals
-joinedTo es spans n = intervalsOut (done (intervalsTo es spans n))

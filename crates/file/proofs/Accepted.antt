@@ -1,16 +1,20 @@
--- What is known of a file that passes 1 to 8: its credentials' roles and sets are within the format's numbers, and each position holds its credential.
-use mathlib.Core.Path.{_≡_, refl, sym, ap, _∙_, subst⁻¹}
+-- What is known of a file that passes 1 to 8: its credentials' roles and sets are within the format's numbers, each position holds its credential,
+-- and its ends are its from and to values.
+use mathlib.Core.Path.{_≡_, refl, sym, ap, _∙_, subst, subst⁻¹}
+use mathlib.Core.Logic.{_⊎_, _↔_}
 use mathlib.Core.List.{List, [], _∷_, List·Memᴰ as Mem, List·Memᴰ·head as head, List·Memᴰ·tail as tail}
 use mathlib.Core.Option.{some}
 use Prim.Native.Nat.{ℕ, _+_, _*_, _<_, _≤_}
 use native.Mathlib.Omega.{arith}
 use lib.Pow.{pow-lt}
 use Rattle.meaning.specs.Lists.{below}
-use Rattle.meaning.specs.Credentials.{Credential, SetFits, FitsAll}
+use Rattle.meaning.specs.Credentials.{Credential, Period, SetFits, FitsAll}
+use Rattle.meaning.specs.Table.{ends}
 use Rattle.meaning.proofs.Tests.{is-true}
-use Rattle.meaning.proofs.ListLaws.{map-out, below-out}
+use Rattle.meaning.proofs.ListLaws.{map-in, map-out, below-in, below-out}
+use Rattle.meaning.proofs.Spans.{ends-exact}
 use Rattle.meaning.proofs.Levels.{entity-power}
-use Rattle.file.specs.Format.{statedBy, N, field, credentialIn, bodyOf, bodyIn, meaningOf, credentials}
+use Rattle.file.specs.Format.{statedBy, N, field, fromOf, toOf, periodOf, credentialIn, bodyOf, bodyIn, meaningOf, credentials}
 use Rattle.file.specs.Reading.{uses}
 use Rattle.file.specs.Values.{Read, valueOf, found, foundOf, foundIn}
 use Rattle.file.specs.Conditions.{Head, Good, Accepted}
@@ -74,6 +78,9 @@ module _ (f : List ℕ) (h : Head f) (i : ℕ) (g : Good f i) where
   good-fits : (credentialIn f i .statement .head < 1024) × SetFits (credentialIn f i .statement .body)
   good-fits = let e = good-body in rw (e .read) (good-head, e .fits)
 
+  good-period : credentialIn f i .period ≡ periodOf f i
+  good-period = let e = good-body in rw (e .read) refl
+
   good-found : foundIn f i ≡ foundOf f i (bodyIn f i) → Read f i
   good-found q =
       let e = good-body in
@@ -98,3 +105,32 @@ module _ (f : List ℕ) (a : Accepted f) where
   -- from N on there is none
   pub accepted-end : (i : ℕ) → N f ≤ i → foundIn f i ≡ F.End
   accepted-end i l = found-end f i (ap (λ (o : Outcome ℕ). numberOf o) (head-read 0 f (a .head))) l
+
+  -- the period at a position below N is the one of its bytes
+  accepted-period : (i : ℕ) → i < N f → credentialIn f i .period ≡ periodOf f i
+  accepted-period i l = good-period f (a .head) i (a .good i l)
+
+  -- the ends are the from and to values
+  pub accepted-ends : (x : ℕ) → Mem x (ends (credentials f)) ↔ ((i : ℕ) × (i < N f) × ((x ≡ fromOf f i) ⊎ (x ≡ toOf f i)))
+  unfolding credentials
+  accepted-ends x = (out, into)
+    where
+      Bound : Period → Type 0
+      Bound v = (x ≡ v .from) ⊎ (x ≡ v .until)
+
+      out : Mem x (ends (credentials f)) → (i : ℕ) × (i < N f) × Bound (periodOf f i)
+      out m =
+          let (c, k, l, b) = ends-exact (credentials f) x .0 m in
+          let (i, j, e) = map-out (credentialIn f) (below (N f)) k in
+          let h = below-out (N f) j in
+          (i, h, subst Bound (ap (λ (y : Credential). y .period) e ∙ accepted-period i h) b)
+
+      into : (i : ℕ) × (i < N f) × Bound (periodOf f i) → Mem x (ends (credentials f))
+      into (i, h, b) =
+          let e = accepted-period i h in
+          ends-exact (credentials f) x .1 (
+            credentialIn f i,
+            map-in (credentialIn f) (below-in (N f) i h),
+            subst⁻¹ (λ (v : Period). v .from < v .until) e (a .good i h .period),
+            subst⁻¹ Bound e b,
+          )

@@ -1,17 +1,20 @@
 -- What reading a credentials file is shown to mean. Each claim is proved in the file whose name it is taken from.
 use mathlib.Core.Path.{_≡_, refl}
-use mathlib.Core.Logic.{_↔_}
-use mathlib.Core.List.{List}
-use Prim.Native.Nat.{ℕ, _<_, _≤_}
+use mathlib.Core.Logic.{_⊎_, _↔_}
+use mathlib.Core.List.{List, [], _∷_, List·Memᴰ as Mem}
+use Prim.Native.Nat.{ℕ, _+_, _*_, _^_, _<_, _≤_}
 use lib.ListN.{length}
-use Rattle.meaning.specs.Credentials.{_⊗_, credentialAt, FitsAll}
-use Rattle.meaning.specs.Cases.{P}
+use Rattle.meaning.specs.Lists.{Ascending}
+use Rattle.meaning.specs.Credentials.{_·_, set, role, link, _∩_, _⊙_, _⊗_, _⟵_, _during_, credentialAt, FitsAll}
+use Rattle.meaning.specs.Table.{ends}
+use Rattle.meaning.specs.Cases.{_upTo_, P}
+use Rattle.meaning.proofs.Claims.{ends-ascend}
 use Rattle.file.specs.Refusals.{Outcome, done, refused}
-use Rattle.file.specs.Format.{N, credentialIn, credentials}
+use Rattle.file.specs.Format.{E, R, N, lengthFor, fromOf, toOf, credentialIn, credentials}
 use Rattle.file.specs.Reading.{reading, read}
 use Rattle.file.specs.Values.{Read, foundIn}
 use Rattle.file.specs.Conditions.{Accepted, Refused}
-use Rattle.file.specs.Samples.{p}
+use Rattle.file.specs.Samples.{p, kinds}
 use Rattle.file.specs.declared.Found.the-variants as F
 use Rattle.file.proofs.Refusals as Refusals
 use Rattle.file.proofs.Credentials as Credentials
@@ -45,6 +48,25 @@ module _ (f : List ℕ) where
     pub within-format : FitsAll (credentials f)
     within-format = Accepting.accepted-fits f a
 
+    -- The ends of an accepted file are exactly its from and to values, ascending, each once.
+    pub accepted-ends : (x : ℕ) → Mem x (ends (credentials f)) ↔ ((i : ℕ) × (i < N f) × ((x ≡ fromOf f i) ⊎ (x ≡ toOf f i)))
+    accepted-ends = Accepting.accepted-ends f a
+
+    pub accepted-ends-ascend : Ascending (λ (x y : ℕ). x < y) (ends (credentials f))
+    accepted-ends-ascend = ends-ascend (credentials f)
+
+-- The sizes are two bytes each, the lowest first.
+module _ (x₀ x₁ y₀ y₁ z₀ z₁ : ℕ) (rest : List ℕ) where
+  abbrev sized : List ℕ
+  sized = x₀ ∷ x₁ ∷ y₀ ∷ y₁ ∷ z₀ ∷ z₁ ∷ rest
+
+  pub size-bytes : (E sized ≡ x₀ + 256 * x₁) × (R sized ≡ y₀ + 256 * y₁) × (N sized ≡ z₀ + 256 * z₁)
+  size-bytes = (refl, refl, refl)
+
+-- 256 credentials are the bytes 00 01, and make a file of 4,102 bytes.
+pub most-credentials : (rest : List ℕ) → let f : List ℕ = 0x20 ∷ 0x00 ∷ 0x20 ∷ 0x00 ∷ 0x00 ∷ 0x01 ∷ rest in (N f ≡ 256) × (lengthFor (N f) ≡ 4102)
+most-credentials rest = (refl, refl)
+
 -- Set P's 54 bytes are read as the credentials of the cases' P, and are not refused.
 pub p-length : length p ≡ 54
 p-length = refl
@@ -59,3 +81,22 @@ p-read = refl
 
 pub p-accepted : Accepted p
 p-accepted = accepted-exact p {A = ℕ} 0 .0 p-read
+
+-- The sample of all kinds is read as these credentials, and is not refused.
+pub kinds-credentials : credentials kinds ≡
+    1 · 2 ⟵ set (2 ^ 3) during 0x14131211 upTo 0x18171615
+    ∷ 4 · 5 ⟵ role (6 · 7) during 0x24232221 upTo 0x28272625
+    ∷ 8 · 9 ⟵ link (10 · 11) 12 during 0x34333231 upTo 0x38373635
+    ∷ 13 · 14 ⟵ 15 · 16 ∩ 17 · 18 during 0x44434241 upTo 0x48474645
+    ∷ 19 · 20 ⟵ 21 · 22 ⊙ 23 · 24 during 0x54535251 upTo 0x58575655
+    ∷ 25 · 26 ⟵ 27 · 28 ⊗ 29 · 30 during 0x64636261 upTo 0x68676665
+    ∷ []
+unfolding credentials
+kinds-credentials = refl
+
+pub kinds-read : _≡_ {A = Outcome ℕ} (read kinds 0) (done 0)
+unfolding reading credentials
+kinds-read = refl
+
+pub kinds-accepted : Accepted kinds
+kinds-accepted = accepted-exact kinds {A = ℕ} 0 .0 kinds-read

@@ -3,15 +3,15 @@ use mathlib.Core.Path.{_≡_, subst⁻¹}
 use mathlib.Core.Bool.{Bool, true, false, _&&_, not}
 use mathlib.Core.List.{List}
 use Prim.Native.Nat.{ℕ, _≤_, _<_}
-use lib.Dec.{T, leb, ltb, nltb→le, nleb→lt, ltb→lt}
+use lib.Dec.{T, leb, ltb, nltb→le, nleb→lt}
 use borrow.Author.Tests.{lt-ltb, le-ltb, le-leb, lt-leb}
 use Rattle.file.specs.declared.Head.{Head}
-use Rattle.file.specs.Format.{byte, E, R, N, statementAt, field, fromOf, toOf}
+use Rattle.file.specs.Format.{byte, N, statementAt, field, fromOf, toOf}
 use Rattle.file.specs.Reading.{inRange, zeros, credentialRows}
 use Rattle.file.specs.Values.{firstNumber, Headed, Stated}
 use Rattle.meaning.proofs.Tests.{and-left, and-right}
 use Rattle.file.proofs.First.{not-not, clear-holds}
-use Rattle.file.proofs.Uses.{used-b, kind-at}
+use Rattle.file.proofs.Uses.{kind-at}
 
 module _ (f : List ℕ) (i : ℕ) where
   pub fault-4 : 5 < field f i 0 → firstNumber (credentialRows f i) ≡ 4
@@ -54,10 +54,6 @@ passed f i e =
       zeroed = not-not (zeros f i) (and-left c (d && true) v);
       lasting = nleb→lt (toOf f i) (fromOf f i) (and-left d true (and-right c (d && true) v));
     }
-
-pub passed-b : (f : List ℕ) (i : ℕ) → Passed f i → field f i 3 < E f
-passed-b f i p =
-    ltb→lt (field f i 3) (E f) (used-b (field f i 0) (p .kind) (λ j. ltb (field f i j) (E f)) (λ j. ltb (field f i j) (R f)) (p .ranged))
 
 pub stated : (f : List ℕ) (h : Head) (i : ℕ) → Headed f h → i < N f → byte f (statementAt i) ≤ 5 → Stated f i
 stated f h i d l k = record { low = l; few = d .few; long = d .long; kind = subst⁻¹ (λ (n : ℕ). n ≤ 5) (kind-at f i) k }

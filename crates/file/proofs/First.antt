@@ -11,7 +11,7 @@ use borrow.Author.Tests.{eq-eqb, ne-eqb}
 use Rattle.meaning.specs.Lists.{if, all, each}
 use Rattle.meaning.proofs.Tests.{and-in, and-left, and-right}
 use Rattle.file.specs.declared.Refusal.{Refusal}
-use Rattle.file.specs.Refusals.{Row, Outcome, done, refused, first}
+use Rattle.file.specs.Refusals.{RefusalRow, Outcome, done, refused, first}
 use Rattle.file.specs.Values.{refusalOf, firstRefusal, firstNumber, clear}
 
 -- the second answer where the first is no refusal
@@ -23,13 +23,13 @@ after (refused n p) o = refused n p
 abbrev pub outcomeOf : {A : Type 0} → Refusal → A → Outcome A
 outcomeOf r a = if (eqb (r .number) 0) (done a) (refused (r .number) (r .place))
 
-abbrev pub numbered : List Row → Bool
+abbrev pub numbered : List RefusalRow → Bool
 numbered rows = all (λ r. not (eqb (r .number) 0)) rows
 
-abbrev pub noneHolds : List Row → Bool
+abbrev pub noneHolds : List RefusalRow → Bool
 noneHolds rows = all (λ r. not (r .holds)) rows
 
-abbrev pub allAt : ℕ → List Row → Bool
+abbrev pub allAt : ℕ → List RefusalRow → Bool
 allAt p rows = all (λ r. eqb (r .place) p) rows
 
 module _ {A B : Type 0} where
@@ -38,17 +38,17 @@ module _ {A B : Type 0} where
   step true n p u v w e = refl
   step false n p u v w e = e
 
-  pub first-append : (xs ys : List Row) (a : A) (b : B) → first (xs ++ ys) b ≡ after (first xs a) (first ys b)
+  pub first-append : (xs ys : List RefusalRow) (a : A) (b : B) → first (xs ++ ys) b ≡ after (first xs a) (first ys b)
   first-append [] ys a b = refl
   first-append (x ∷ xs) ys a b =
       step (x .holds) (x .number) (x .place) (first xs a) (first ys b) (first (xs ++ ys) b) (first-append xs ys a b)
 
-  pub first-any : (rows : List Row) (a : A) (b : B) → first rows b ≡ after (first rows a) (done b)
+  pub first-any : (rows : List RefusalRow) (a : A) (b : B) → first rows b ≡ after (first rows a) (done b)
   first-any [] a b = refl
   first-any (x ∷ xs) a b = step (x .holds) (x .number) (x .place) (first xs a) (done b) (first xs b) (first-any xs a b)
 
 -- an answer's refusal does not depend on the value on success
-pub refusal-any : {A : Type 0} (rows : List Row) (a : A) → refusalOf (first rows a) ≡ firstRefusal rows
+pub refusal-any : {A : Type 0} (rows : List RefusalRow) (a : A) → refusalOf (first rows a) ≡ firstRefusal rows
 refusal-any {A} rows a = ap refusalOf (first-any {A = ℕ} {B = A} rows 0 a) ∙ go (first rows 0)
   where
     go : (o : Outcome ℕ) → refusalOf (after o (done a)) ≡ refusalOf o
@@ -63,7 +63,7 @@ not-zero : (n : ℕ) (b : Bool) → T (not (eqb n 0) && b) → n ≡ 0 → ⊥
 not-zero n b t e = subst (λ (x : Bool). T (not x && b)) (eq-eqb n 0 e) t
 
 -- Rows that have numbers refuse nothing where the number is 0.
-pub first-clear : {A : Type 0} (rows : List Row) (a : A) → T (numbered rows) → firstNumber rows ≡ 0 → first rows a ≡ done a
+pub first-clear : {A : Type 0} (rows : List RefusalRow) (a : A) → T (numbered rows) → firstNumber rows ≡ 0 → first rows a ≡ done a
 first-clear [] a t e = refl
 first-clear (x ∷ xs) a t e = go (x .holds) e (first-clear xs a (and-right (not (eqb (x .number) 0)) (numbered xs) t))
   where
@@ -73,7 +73,7 @@ first-clear (x ∷ xs) a t e = go (x .holds) e (first-clear xs a (and-right (not
     go false e f = f e
 
 -- where nothing is refused, no row holds, and the other way round
-pub first-holds : {A : Type 0} (rows : List Row) (a b : A) → first rows a ≡ done b → T (noneHolds rows)
+pub first-holds : {A : Type 0} (rows : List RefusalRow) (a b : A) → first rows a ≡ done b → T (noneHolds rows)
 first-holds [] a b e = tt
 first-holds (x ∷ xs) a b e = go (x .holds) e (first-holds xs a b)
   where
@@ -82,7 +82,7 @@ first-holds (x ∷ xs) a b e = go (x .holds) e (first-holds xs a b)
     go true e f = let z : _≡_ {A = ℕ} 0 1 = cc in absurd (omega arith)
     go false e f = f e
 
-pub holds-first : {A : Type 0} (rows : List Row) (a : A) → T (noneHolds rows) → first rows a ≡ done a
+pub holds-first : {A : Type 0} (rows : List RefusalRow) (a : A) → T (noneHolds rows) → first rows a ≡ done a
 holds-first [] a t = refl
 holds-first (x ∷ xs) a t = go (x .holds) t (holds-first xs a)
   where
@@ -92,24 +92,24 @@ holds-first (x ∷ xs) a t = go (x .holds) t (holds-first xs a)
     go false t f = f t
 
 -- number 0 exactly where no row holds
-pub clear-holds : (rows : List Row) → T (numbered rows) → firstNumber rows ≡ 0 → T (noneHolds rows)
+pub clear-holds : (rows : List RefusalRow) → T (numbered rows) → firstNumber rows ≡ 0 → T (noneHolds rows)
 clear-holds rows t e = first-holds {A = ℕ} rows 0 0 (first-clear rows 0 t e)
 
 -- the first rows decide, unless they are clear
-pub refusal-stopped : (xs ys : List Row) → (firstNumber xs ≡ 0 → ⊥) → firstRefusal (xs ++ ys) ≡ firstRefusal xs
+pub refusal-stopped : (xs ys : List RefusalRow) → (firstNumber xs ≡ 0 → ⊥) → firstRefusal (xs ++ ys) ≡ firstRefusal xs
 refusal-stopped xs ys h = ap refusalOf (first-append {A = ℕ} {B = ℕ} xs ys 0 0) ∙ go (first xs 0) h
   where
     go : (o : Outcome ℕ) → (refusalOf o .number ≡ 0 → ⊥) → refusalOf {A = ℕ} (after o (first ys 0)) ≡ refusalOf o
     go (done n) h = absurd (h refl)
     go (refused n p) h = refl
 
-pub refusal-passed : (xs ys : List Row) → T (numbered xs) → firstNumber xs ≡ 0 → firstRefusal (xs ++ ys) ≡ firstRefusal ys
+pub refusal-passed : (xs ys : List RefusalRow) → T (numbered xs) → firstNumber xs ≡ 0 → firstRefusal (xs ++ ys) ≡ firstRefusal ys
 refusal-passed xs ys t e =
     ap refusalOf (first-append {A = ℕ} {B = ℕ} xs ys 0 0)
     ∙ ap (λ (o : Outcome ℕ). refusalOf (after {A = ℕ} {B = ℕ} o (first ys 0))) (first-clear xs 0 t e)
 
 -- the answer from the refusal alone
-pub first-refusal : {A : Type 0} (rows : List Row) (a : A) → T (numbered rows) → first rows a ≡ outcomeOf (firstRefusal rows) a
+pub first-refusal : {A : Type 0} (rows : List RefusalRow) (a : A) → T (numbered rows) → first rows a ≡ outcomeOf (firstRefusal rows) a
 first-refusal {A} rows a t =
     dite (ℕ-discrete (firstNumber rows) 0)
     (λ e. first-clear rows a t e ∙ simp (eq-eqb _ _ e))
@@ -120,7 +120,7 @@ first-refusal {A} rows a t =
     go (refused n p) h = simp (ne-eqb n 0 h)
 
 -- rows of one place refuse at that place
-pub refusal-at : (p : ℕ) (rows : List Row) → T (allAt p rows) → (firstNumber rows ≡ 0 → ⊥) → firstRefusal rows .place ≡ p
+pub refusal-at : (p : ℕ) (rows : List RefusalRow) → T (allAt p rows) → (firstNumber rows ≡ 0 → ⊥) → firstRefusal rows .place ≡ p
 refusal-at p [] t h = absurd (h refl)
 refusal-at p (x ∷ xs) t h = go (x .holds) h (refusal-at p xs (and-right (eqb (x .place) p) (allAt p xs) t))
   where
@@ -130,15 +130,15 @@ refusal-at p (x ∷ xs) t h = go (x .holds) h (refusal-at p xs (and-right (eqb (
     go true h f = eqb→eq (x .place) p (and-left (eqb (x .place) p) (allAt p xs) t)
     go false h f = f h
 
-pub refusal-number-at : (p : ℕ) (rows : List Row) → T (allAt p rows) → (firstNumber rows ≡ 0 → ⊥) → firstRefusal rows ≡ record { number = firstNumber rows; place = p }
+pub refusal-number-at : (p : ℕ) (rows : List RefusalRow) → T (allAt p rows) → (firstNumber rows ≡ 0 → ⊥) → firstRefusal rows ≡ record { number = firstNumber rows; place = p }
 refusal-number-at p rows t h = ap (λ (q : ℕ). record { number = firstNumber rows; place = q }) (refusal-at p rows t h)
 
-pub numbered-append : (xs ys : List Row) → T (numbered xs) → T (numbered ys) → T (numbered (xs ++ ys))
+pub numbered-append : (xs ys : List RefusalRow) → T (numbered xs) → T (numbered ys) → T (numbered (xs ++ ys))
 numbered-append [] ys s t = t
 numbered-append (x ∷ xs) ys s t =
     let b : Bool = not (eqb (x .number) 0) in
     and-in b (numbered (xs ++ ys)) (and-left b (numbered xs) s) (numbered-append xs ys (and-right b (numbered xs) s) t)
 
-pub numbered-each : {A : Type 0} (f : A → List Row) (xs : List A) → ((x : A) → T (numbered (f x))) → T (numbered (each f xs))
+pub numbered-each : {A : Type 0} (f : A → List RefusalRow) (xs : List A) → ((x : A) → T (numbered (f x))) → T (numbered (each f xs))
 numbered-each f [] h = tt
 numbered-each f (x ∷ xs) h = numbered-append (f x) (each f xs) (h x) (numbered-each f xs h)

@@ -11,33 +11,33 @@ use lib.ListN.{length}
 use Rattle.meaning.specs.Lists.{all, each, upFrom, below}
 use Rattle.meaning.specs.Table.{ends}
 use Rattle.meaning.proofs.Tests.{and-in, and-left, and-right, eq-in, all-out}
-use Rattle.file.specs.Refusals.{Row, Outcome, done, refused, first, _when_, _at_when_}
+use Rattle.file.specs.Refusals.{RefusalRow, Outcome, done, refused, first, _when_, _at_when_}
 use Rattle.file.specs.Format.{E, R, N, lengthFor, field, fromOf, toOf, credentials}
 use Rattle.file.specs.Reading.{between, uses, inRange, zeros, headRows, credentialRows, endsRow, reading, read}
 use Rattle.file.specs.Conditions.{Limits, Head, Ranges, Zeros, Good, GoodBelow, Accepted, Reached, Refused, short, limits, wrongLength, kind, range, unused, period, tooManyEnds}
 
 -- ---- the first row that holds
 
-abbrev pub NoneHolds : List Row → Type 0
-NoneHolds rows = (r : Row) → Mem r rows → ¬ T (r .holds)
+abbrev pub NoneHolds : List RefusalRow → Type 0
+NoneHolds rows = (r : RefusalRow) → Mem r rows → ¬ T (r .holds)
 
 module _ {A : Type 0} (a : A) where
   -- a row that does not hold is passed over, one that holds is given
-  pub pass : (r : Row) (rows : List Row) → ¬ T (r .holds) → first (r ∷ rows) a ≡ first rows a
+  pub pass : (r : RefusalRow) (rows : List RefusalRow) → ¬ T (r .holds) → first (r ∷ rows) a ≡ first rows a
   pass r rows h = go (r .holds) h
     where
       go : (b : Bool) → ¬ T b → elim b as (λ x. Outcome A) [ true ↦ refused (r .number) (r .place) | false ↦ first rows a ] ≡ first rows a
       go true n = absurd (n tt)
       go false n = refl
 
-  pub give : (r : Row) (rows : List Row) → T (r .holds) → _≡_ {A = Outcome A} (first (r ∷ rows) a) (refused (r .number) (r .place))
+  pub give : (r : RefusalRow) (rows : List RefusalRow) → T (r .holds) → _≡_ {A = Outcome A} (first (r ∷ rows) a) (refused (r .number) (r .place))
   give r rows h = go (r .holds) h
     where
       go : (b : Bool) → T b → _≡_ {A = Outcome A} (elim b as (λ x. Outcome A) [ true ↦ refused (r .number) (r .place) | false ↦ first rows a ]) (refused (r .number) (r .place))
       go true t = refl
       go false t = absurd t
 
-  pub pass-all : (xs ys : List Row) → NoneHolds xs → first (xs ++ ys) a ≡ first ys a
+  pub pass-all : (xs ys : List RefusalRow) → NoneHolds xs → first (xs ++ ys) a ≡ first ys a
   pass-all [] ys h = refl
   pass-all (r ∷ xs) ys h = pass r (xs ++ ys) (h r (head refl)) ∙ pass-all xs ys (λ q i. h q (tail i))
 
@@ -93,49 +93,49 @@ module _ (f : List ℕ) where
 -- ---- rows that are passed over
 
 module _ (f : List ℕ) where
-  abbrev shortRow : Row
+  abbrev shortRow : RefusalRow
   shortRow = 1 when (ltb (length f) 6)
 
-  abbrev limitsRow : Row
+  abbrev limitsRow : RefusalRow
   limitsRow = 2 when (not (limitsTest f))
 
-  abbrev lengthRow : Row
+  abbrev lengthRow : RefusalRow
   lengthRow = 3 when (not (eqb (length f) (lengthFor (N f))))
 
-  abbrev kindRow : ℕ → Row
+  abbrev kindRow : ℕ → RefusalRow
   kindRow i = 4 at i when (ltb 5 (field f i 0))
 
-  abbrev rangeRow : ℕ → Row
+  abbrev rangeRow : ℕ → RefusalRow
   rangeRow i = 5 at i when (not (inRange f i))
 
-  abbrev zerosRow : ℕ → Row
+  abbrev zerosRow : ℕ → RefusalRow
   zerosRow i = 6 at i when (not (zeros f i))
 
-  abbrev periodRow : ℕ → Row
+  abbrev periodRow : ℕ → RefusalRow
   periodRow i = 7 at i when (leb (toOf f i) (fromOf f i))
 
   -- the rows of n credentials from i on, and then the row of 8
-  abbrev rowsFrom : ℕ → ℕ → List Row
+  abbrev rowsFrom : ℕ → ℕ → List RefusalRow
   rowsFrom i n = each (credentialRows f) (upFrom i n) ++ endsRow f ∷ []
 
 module _ {A : Type 0} (a : A) (f : List ℕ) where
-  short-passes : 6 ≤ length f → (rows : List Row) → first (shortRow f ∷ rows) a ≡ first rows a
+  short-passes : 6 ≤ length f → (rows : List RefusalRow) → first (shortRow f ∷ rows) a ≡ first rows a
   short-passes h rows = pass a (shortRow f) rows (λ t. omega (arith, ltb→lt (length f) 6 t))
 
-  limits-pass : Limits f → (rows : List Row) → first (limitsRow f ∷ rows) a ≡ first rows a
+  limits-pass : Limits f → (rows : List RefusalRow) → first (limitsRow f ∷ rows) a ≡ first rows a
   limits-pass l rows = pass a (limitsRow f) rows (λ t. T-not (limitsTest f) t (limits-in f l))
 
-  length-passes : length f ≡ lengthFor (N f) → (rows : List Row) → first (lengthRow f ∷ rows) a ≡ first rows a
+  length-passes : length f ≡ lengthFor (N f) → (rows : List RefusalRow) → first (lengthRow f ∷ rows) a ≡ first rows a
   length-passes e rows = pass a (lengthRow f) rows (λ t. T-not (eqb (length f) (lengthFor (N f))) t (eq-in _ _ e))
 
-  head-passes : Head f → (rows : List Row) → first (headRows f ++ rows) a ≡ first rows a
+  head-passes : Head f → (rows : List RefusalRow) → first (headRows f ++ rows) a ≡ first rows a
   head-passes h rows =
       short-passes (h .six) (limitsRow f ∷ lengthRow f ∷ rows) ∙ limits-pass (h .limits) (lengthRow f ∷ rows) ∙ length-passes (h .whole) rows
 
   pub head-read : Head f → _≡_ {A = Outcome A} (first (headRows f) a) (done a)
   head-read h = head-passes h []
 
-  module _ (i : ℕ) (rows : List Row) where
+  module _ (i : ℕ) (rows : List RefusalRow) where
     kind-passes : field f i 0 ≤ 5 → first (kindRow f i ∷ rows) a ≡ first rows a
     kind-passes h = pass a (kindRow f i) rows (λ t. omega (arith, ltb→lt 5 (field f i 0) t))
 
@@ -148,7 +148,7 @@ module _ {A : Type 0} (a : A) (f : List ℕ) where
     period-passes : fromOf f i < toOf f i → first (periodRow f i ∷ rows) a ≡ first rows a
     period-passes h = pass a (periodRow f i) rows (λ t. omega (arith, leb→le (toOf f i) (fromOf f i) t))
 
-  good-passes : (i : ℕ) → Good f i → (rows : List Row) → first (credentialRows f i ++ rows) a ≡ first rows a
+  good-passes : (i : ℕ) → Good f i → (rows : List RefusalRow) → first (credentialRows f i ++ rows) a ≡ first rows a
   good-passes i g rows =
       kind-passes i (rangeRow f i ∷ zerosRow f i ∷ periodRow f i ∷ rows) (g .kind) ∙ range-passes i (zerosRow f i ∷ periodRow f i ∷ rows) (g .ranges)
       ∙ zeros-pass i (periodRow f i ∷ rows) (g .zeros) ∙ period-passes i rows (g .period)
@@ -164,7 +164,7 @@ module _ {A : Type 0} (a : A) (f : List ℕ) where
       ap₂ (λ (j k : ℕ). first (rowsFrom f j k) a) p q
   good-pass (suc k) i t n u e d h =
       let q : u ≡ suc (k + n) = omega arith in
-      ap (λ (j : ℕ). first (rowsFrom f i j) a) q ∙ ap (λ (rows : List Row). first rows a) (one-more i (k + n))
+      ap (λ (j : ℕ). first (rowsFrom f i j) a) q ∙ ap (λ (rows : List RefusalRow). first rows a) (one-more i (k + n))
       ∙ good-passes i (h i (le-refl i) (omega arith)) (rowsFrom f (suc i) (k + n))
       ∙ good-pass k (suc i) t n (k + n) (omega arith) refl (λ j l m. h j (omega arith) m)
 
@@ -177,7 +177,7 @@ module _ {A : Type 0} (a : A) (f : List ℕ) where
   reached-read i r =
       let n = N f - suc i in
       let b = r .below in
-      (n, good-read i (suc n) (r .head) (omega arith) (r .good) ∙ ap (λ (rows : List Row). first rows a) (one-more i n))
+      (n, good-read i (suc n) (r .head) (omega arith) (r .good) ∙ ap (λ (rows : List RefusalRow). first rows a) (one-more i n))
 
   -- ---- the conditions give the refusals
 
@@ -222,11 +222,11 @@ abbrev pub Verdict : List ℕ → Type 0
 Verdict f = Accepted f ⊎ ((n p : ℕ) × Refused f n p)
 
 -- a proposition by its test
-by-test : {P : Type 0} (b : Bool) → (T b → P) → (P → T b) → P ⊎ (¬ P)
+pub by-test : {P : Type 0} (b : Bool) → (T b → P) → (P → T b) → P ⊎ (¬ P)
 by-test true out into = inl (out tt)
 by-test false out into = inr (λ p. into p)
 
-less : (a b : ℕ) → (a < b) ⊎ (b ≤ a)
+pub less : (a b : ℕ) → (a < b) ⊎ (b ≤ a)
 less a b = go (ltb a b) refl
   where
     go : (t : Bool) → ltb a b ≡ t → (a < b) ⊎ (b ≤ a)
@@ -315,3 +315,14 @@ module _ {A : Type 0} (a : A) (f : List ℕ) where
       go : _≡_ {A = Outcome A} (read f a) (done a) → Verdict f → Accepted f
       go e (inl c) = c
       go e (inr (k, q, r)) = let x = refused-read a f r in let z : _≡_ {A = ℕ} 0 1 = cc in absurd (omega arith)
+
+-- their numbers
+pub refused-low : (f : List ℕ) {n p : ℕ} → Refused f n p → n ≤ 8
+refused-low f (short h) = omega arith
+refused-low f (limits h l) = omega arith
+refused-low f (wrongLength h l e) = omega arith
+refused-low f (kind i r h) = omega arith
+refused-low f (range i r k h) = omega arith
+refused-low f (unused i r k s h) = omega arith
+refused-low f (period i r k s z h) = omega arith
+refused-low f (tooManyEnds h g l) = omega arith

@@ -8,7 +8,7 @@ use native.Mathlib.Omega.{arith}
 use lib.Dec.{T}
 use borrow.Author.Tests.{eq-eqb}
 use Rattle.meaning.specs.Lists.{each, upFrom}
-use Rattle.file.specs.Refusals.{Row}
+use Rattle.file.specs.Refusals.{RefusalRow}
 use Rattle.file.specs.Format.{N}
 use Rattle.file.specs.Reading.{credentialRows, credentialsRows}
 use Rattle.file.specs.Values.{firstRefusal, firstNumber}
@@ -16,7 +16,7 @@ use Rattle.file.proofs.First.{refusal-stopped, refusal-passed, refusal-
 
 module _ (f : List ℕ) (i : ℕ) where
   -- the rows of credential i and all after it
-  abbrev pub rowsFrom : List Row
+  abbrev pub rowsFrom : List RefusalRow
   rowsFrom = each (credentialRows f) (upFrom i (N f - i))
 
 module _ (f : List ℕ) where

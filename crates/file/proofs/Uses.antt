@@ -1,16 +1,15 @@
 -- Which bytes of a statement its kind uses, as the tests of refusals 5 and 6 in the order of the code.
-use mathlib.Core.Path.{_≡_, refl, ap, ap₂, sym, _∙_, subst}
+use mathlib.Core.Path.{_≡_, refl, ap, ap₂, sym, _∙_}
 use mathlib.Core.Bool.{Bool, true, false, _&&_, _||_, not, and-assoc, and-true}
 use mathlib.Core.List.{List, [], _∷_}
 use Prim.Native.Nat.{ℕ, zero, suc, _≤_, _<_}
 use native.Mathlib.Omega.{arith}
 use native.Mathlib.Nat.{add-zero}
-use lib.Dec.{T, eqb, ltb}
+use lib.Dec.{eqb, ltb}
 use Rattle.meaning.specs.Lists.{all}
-use Rattle.file.specs.Format.{roleOf, joinedOf, bodyOf, byte, E, R, statementAt, field}
+use Rattle.file.specs.Format.{byte, E, R, statementAt, field}
 use Rattle.file.specs.Reading.{uses, inRange, zeros}
 use Rattle.file.specs.Values.{usedBy}
-use Rattle.meaning.proofs.Tests.{and-left, and-right}
 
 -- what holds of each of the six kinds
 pub by-kind : (P : ℕ → Type 0) → P 0 → P 1 → P 2 → P 3 → P 4 → P 5 → (k : ℕ) → k ≤ 5 → P k
@@ -55,13 +54,6 @@ used-none (suc (suc zero)) h = absurd (omega arith)
 used-none (suc zero) h = absurd (omega arith)
 used-none zero h = absurd (omega arith)
 
--- every kind uses b
-pub used-b : (k : ℕ) → k ≤ 5 → (p q : ℕ → Bool) → T (all p (uses k .entities) && all q (uses k .names)) → T (p 3)
-used-b k h p q t =
-    let c : Bool = not (usedBy k .c) || p 5 in
-    let u : T (p 1 && p 3 && c) = and-left (p 1 && p 3 && c) (q 2 && (not (usedBy k .s) || q 4) && (not (usedBy k .t) || q 6)) (subst T (ranged-kind k h p q) t) in
-    and-right (p 1) (p 3) (and-left (p 1 && p 3) c u)
-
 pub kind-at : (f : List ℕ) (i : ℕ) → field f i 0 ≡ byte f (statementAt i)
 kind-at f i = ap (byte f) (add-zero (statementAt i))
 
@@ -76,9 +68,3 @@ in-range-kind f i e r h p q =
 pub zeros-kind : (f : List ℕ) (i : ℕ) → field f i 0 ≤ 5 → zeros f i ≡ blank (byte f (statementAt i)) (λ j. eqb (field f i j) 0)
 zeros-kind f i h =
     blank-kind (field f i 0) h (λ j. eqb (field f i j) 0) ∙ ap (λ (k : ℕ). blank k (λ j. eqb (field f i j) 0)) (kind-at f i)
-
--- the body of a two-role kind is that of its roles
-pub joined-body : (b s c t k : ℕ) → k ≤ 5 → 3 ≤ k → bodyOf k b s c t ≡ joinedOf k (roleOf b s) (roleOf c t)
-joined-body b s c t =
-    by-kind (λ k. 3 ≤ k → bodyOf k b s c t ≡ joinedOf k (roleOf b s) (roleOf c t))
-    (λ h. absurd (omega arith)) (λ h. absurd (omega arith)) (λ h. absurd (omega arith)) (λ h. refl) (λ h. refl) (λ h. refl)

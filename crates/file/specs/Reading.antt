@@ -6,14 +6,14 @@ use lib.Dec.{eqb, leb, ltb}
 use lib.ListN.{length, getD}
 use Rattle.meaning.specs.Lists.{each, all, below}
 use Rattle.meaning.specs.Table.{ends}
-use Rattle.file.specs.Refusals.{Row, Outcome, first, _when_, _at_when_}
+use Rattle.file.specs.Refusals.{RefusalRow, Outcome, first, _when_, _at_when_}
 use Rattle.file.specs.Format.{E, R, N, lengthFor, field, fromOf, toOf, credentials}
 
 abbrev pub between : ℕ → ℕ → ℕ → Bool
 between low high x = leb low x && leb x high
 
 -- 1 to 3
-abbrev pub headRows : List ℕ → List Row
+abbrev pub headRows : List ℕ → List RefusalRow
 headRows f =
     1 when (ltb (length f) 6)
     ∷ 2 when (not (between 1 32 (E f) && between 1 32 (R f) && between 0 256 (N f)))
@@ -45,7 +45,7 @@ abbrev pub zeros : List ℕ → ℕ → Bool
 zeros f i = all (λ j. eqb (field f i j) 0) (uses (field f i 0) .unused)
 
 -- 4 to 7 of the credential at position i
-abbrev pub credentialRows : List ℕ → ℕ → List Row
+abbrev pub credentialRows : List ℕ → ℕ → List RefusalRow
 credentialRows f i =
     4 at i when (ltb 5 (field f i 0))
     ∷ 5 at i when (not (inRange f i))
@@ -54,15 +54,15 @@ credentialRows f i =
     ∷ []
 
 -- credentials in file order, each through 4 to 7
-abbrev pub credentialsRows : List ℕ → List Row
+abbrev pub credentialsRows : List ℕ → List RefusalRow
 credentialsRows f = each (credentialRows f) (below (N f))
 
 -- 8
-abbrev pub endsRow : List ℕ → Row
+abbrev pub endsRow : List ℕ → RefusalRow
 endsRow f = 8 when (ltb 64 (length (ends (credentials f))))
 
 -- 1 to 8
-unfoldable pub reading : List ℕ → List Row
+unfoldable pub reading : List ℕ → List RefusalRow
 reading f = headRows f ++ (credentialsRows f ++ endsRow f ∷ [])
 
 -- what reading a file answers, where its value on success is a

@@ -12,21 +12,21 @@ pub data Outcome (A : Type 0) : Type 0 where
   refused : ℕ → ℕ → Outcome A
 
 -- a row of the table: number, place, condition
-pub record Row : Type 0 where
+pub record RefusalRow : Type 0 where
   pub number : ℕ
   pub place : ℕ
   pub holds : Bool
 
 infix 75 _when_
 infix 75 _at_when_
-abbrev pub _at_when_ : ℕ → ℕ → Bool → Row
+abbrev pub _at_when_ : ℕ → ℕ → Bool → RefusalRow
 n at p when b = record { number = n; place = p; holds = b }
 
-abbrev pub _when_ : ℕ → Bool → Row
+abbrev pub _when_ : ℕ → Bool → RefusalRow
 n when b = n at 0 when b
 
 -- A refusal is given if its condition holds and none above it does, and in no other case.
-abbrev pub first : {A : Type 0} → List Row → A → Outcome A
+abbrev pub first : {A : Type 0} → List RefusalRow → A → Outcome A
 first [] a = done a
 first (r ∷ rows) a = elim (r .holds) [ true ↦ refused (r .number) (r .place) | false ↦ first rows a ]
 

@@ -9,7 +9,7 @@ use lib.ListN.{length}
 use Rattle.meaning.specs.Lists.{if, any}
 use Rattle.meaning.specs.Credentials as M
 use Rattle.meaning.specs.Credentials.{_⟵_, _during_}
-use Rattle.file.specs.Refusals.{Row, Outcome, first, numberOf, placeOf}
+use Rattle.file.specs.Refusals.{RefusalRow, Outcome, first, numberOf, placeOf}
 use Rattle.file.specs.Format.{statedBy, credentialIn, E, R, N, lengthFor, field, roleOf, roleNumber, meaningOf, bodyIn, periodOf}
 use Rattle.file.specs.Reading.{uses, headRows, credentialRows}
 use Rattle.file.specs.declared.Used.{Used}
@@ -25,14 +25,14 @@ use Rattle.file.specs.declared.Found.the-variants as F
 abbrev pub refusalOf : {A : Type 0} → Outcome A → Refusal
 refusalOf o = record { number = numberOf o; place = placeOf o }
 
-abbrev pub firstRefusal : List Row → Refusal
+abbrev pub firstRefusal : List RefusalRow → Refusal
 firstRefusal rows = refusalOf {A = ℕ} (first rows 0)
 
-abbrev pub firstNumber : List Row → ℕ
+abbrev pub firstNumber : List RefusalRow → ℕ
 firstNumber rows = firstRefusal rows .number
 
 -- no row holds
-abbrev pub clear : List Row → Bool
+abbrev pub clear : List RefusalRow → Bool
 clear rows = eqb (firstNumber rows) 0
 
 -- which of s, c and t a kind uses

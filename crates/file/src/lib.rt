@@ -1,13 +1,13 @@
-// The credentials file: its numbers, its credentials as values, and refusals 1 to 7.
+// The credentials file: its credentials as types, its sizes with refusals 1 to 3, and of one credential its period and refusals 4 to 7.
 ghost use mathlib.Core.Path.{_≡_};
 ghost use Prim.Native.Nat.{_+_, _*_, _<_, _≤_};
 ghost use lib.ListN.{length};
 ghost use mathlib.Core.Bool.{_&&_};
 ghost use lib.Dec.{ltb};
-ghost use mathlib.Core.Option.{some};
-ghost use Rattle.file.specs.Format.{byte, two, four, E, R, N, roleOf, joinedOf, bodyOf, bodyIn};
+ghost use Rattle.meaning.specs.Credentials.{_·_};
+ghost use Rattle.file.specs.Format.{byte, two, four, E, R, N};
 ghost use Rattle.file.specs.Reading.{between, inRange, zeros, credentialRows};
-ghost use Rattle.file.specs.Values.{usedBy, headIn, noSizes, firstNumber, Headed, Stated, found, foundOf, foundIn, periodIn};
+ghost use Rattle.file.specs.Values.{usedBy, headIn, noSizes, firstNumber, Headed, Stated, periodIn};
 
 // An entity's number; never a role name's.
 pub struct Entity(pub u8);
@@ -131,36 +131,19 @@ pub fn read_period(file: &[u8], h: Head, i: usize) -> Period
     }
 }
 
-// The credential at a position, if the head passes 1 to 3 and the credential 4 to 7.
-pub fn read_credential(file: &[u8], i: usize) -> Found
-    ensures { λ r. ⌜ r ≡ foundIn (now (file .entry)) i ⌝ }
+// A role as a number.
+pub fn role_number(issuer: Entity, name: RoleName) -> u32
+    ensures { λ r. ⌜ (r ≡ issuer .0 · name .0) × (r < 8448) ⌝ }
 {
-    let h = read_head(file);
-    let n = h.credentials;
-    if h.number != 0 {
-        return Found::End;
-    }
-    if n <= i {
-        return Found::End;
-    }
-    if fault(file, h, i) != 0 {
-        return Found::End;
-    }
-    Found::Credential(value_at(file, h, i))
-}
-
-fn wide(x: u8) -> u32
-    ensures { λ r. ⌜ (r ≡ x) × (x < 256) ⌝ }
-{
-    x as u32
+    widths::wide8(issuer.0) * 32 + widths::wide8(name.0)
 }
 
 fn two_at(file: &[u8], p: usize) -> u32
     requires { ⌜ p + 2 ≤ length (now file) ⌝ }
     ensures { λ r. ⌜ (r ≡ two (now (file .entry)) p) × (r < 65536) ⌝ }
 {
-    let low = wide(file[p]);
-    let high = wide(file[p + 1]);
+    let low = widths::wide8(file[p]);
+    let high = widths::wide8(file[p + 1]);
     low + 256 * high
 }
 
@@ -228,7 +211,7 @@ fn below(file: &[u8], p: usize, limit: u32) -> bool
     requires { ⌜ p < length (now file) ⌝ }
     ensures { λ r. ⌜ r ≡ ltb (byte (now (file .entry)) p) limit ⌝ }
 {
-    wide(file[p]) < limit
+    widths::wide8(file[p]) < limit
 }
 
 // The entities and names that the kind uses are below e and r: A, r and b always, s, c and t where it uses them.
@@ -258,59 +241,4 @@ fn zeroed(file: &[u8], i: usize) -> bool
         & (u.c | (file[at + 5] == 0))
         & (u.t | (file[at + 6] == 0))
         & (file[at + 7] == 0)
-}
-
-fn role_of(issuer: u8, name: u8) -> Role
-    ensures { λ r. ⌜ r ≡ roleOf issuer name ⌝ }
-{
-    Role {
-        issuer: Entity(issuer),
-        name: RoleName(name),
-    }
-}
-
-// The body of a two-role kind.
-fn joined(kind: u8, first: Role, second: Role) -> Body
-    requires { ⌜ (3 ≤ kind) × (kind ≤ 5) ⌝ }
-    ensures { λ r. ⌜ joinedOf kind first second ≡ some r ⌝ }
-{
-    match kind {
-        3 => Body::Intersection(first, second),
-        4 => Body::Union(first, second),
-        5 => Body::Disjoint(first, second),
-        _ => Body::Set(0),
-    }
-}
-
-// The body of a kind from 0 to 5; the last arm is not reached.
-fn body_of(kind: u8, b: u8, s: u8, c: u8, t: u8) -> Body
-    requires { ⌜ (kind ≤ 5) × (b < 32) ⌝ }
-    ensures { λ r. ⌜ bodyOf kind b s c t ≡ some r ⌝ }
-{
-    match kind {
-        0 => Body::Set(1u32 << b),
-        1 => Body::Inclusion(role_of(b, s)),
-        2 => Body::Linked(role_of(b, s), RoleName(t)),
-        3..=5 => joined(kind, role_of(b, s), role_of(c, t)),
-        _ => Body::Set(0),
-    }
-}
-
-fn value_at(file: &[u8], h: Head, i: usize) -> Credential
-    requires { ⌜ (Headed (now file) h) × (i < N (now file)) × (firstNumber (credentialRows (now file) i) ≡ 0) ⌝ }
-    ensures { λ r. ⌜ found r ≡ foundOf (now (file .entry)) i (bodyIn (now (file .entry)) i) ⌝ }
-{
-    let at = 6 + 8 * i;
-    let v = read_period(file, h, i);
-    Credential {
-        head: role_of(file[at + 1], file[at + 2]),
-        body: body_of(
-            file[at],
-            file[at + 3],
-            file[at + 4],
-            file[at + 5],
-            file[at + 6],
-        ),
-        period: v,
-    }
 }

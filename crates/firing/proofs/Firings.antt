@@ -175,7 +175,7 @@ module _ (done : List ℕ) {keys spans keys′ spans′ : List ℕ} {n r : ℕ} 
 -- ---- the entry can still give, in the same families
 
 module _ {keys spans keys′ spans′ : List ℕ} {n r : ℕ} (g : Grown keys spans n keys′ spans′ r) where
-  pub firing-after : {done : List ℕ} {t : Turn} → Firing keys done n t → Firing keys′ done r t
+  pub firing-after : {done : List ℕ} {t : Turn} → Firing done n t → Firing done r t
   firing-after f = record { low = (let m = g .more in let l = f .low in omega arith); some = f .some; last = f .last }
 
   pub family-after : (e family : ℕ) → e < n → InFamily keys e family → InFamily keys′ e family

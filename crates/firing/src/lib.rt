@@ -1,4 +1,5 @@
 // What an entry gives as a premise of the uses of its families.
+ghost use mathlib.Core.Path.{_≡_};
 ghost use Prim.Native.Nat.{_+_, _≤_};
 ghost use lib.ListN.{getD};
 ghost use Rattle.rules.specs.Uses.{Listed, Formed, familyOf};
@@ -11,6 +12,7 @@ ghost use Rattle.firing.specs.Firing.{Fires, FromFamily};
 use heads::Gift;
 use pairs::Plan;
 use premises::Turn;
+use waiting::Offer;
 
 // Adds what entry e gives by every body of a family.
 pub fn fire(
@@ -27,7 +29,7 @@ pub fn fire(
     t: Turn,
     family: usize,
 ) -> usize
-    requires { ⌜ Held (now keys) (now spans) (now slots) (now links) (now notes) (now done) n ⌝ ∗ ⌜ (n ≤ t .limit) × (t .limit ≤ 1024) ⌝ ∗ ⌜ Listed (now codes) (now valid) (now lists) × Formed (now codes) (now lists) ⌝ ∗ ⌜ Firing (now keys) (now done) n t ⌝ ∗ ⌜ InFamily (now keys) (t .e) family ⌝ }
+    requires { ⌜ Held (now keys) (now spans) (now slots) (now links) (now notes) (now done) n ⌝ ∗ ⌜ (n ≤ t .limit) × (t .limit ≤ 1024) ⌝ ∗ ⌜ Listed (now codes) (now valid) (now lists) × Formed (now codes) (now lists) ⌝ ∗ ⌜ Firing (now done) n t ⌝ ∗ ⌜ InFamily (now keys) (t .e) family ⌝ }
     ensures { λ r. ⌜ Gains (t .limit) (now (keys .entry)) (now (spans .entry)) (now (notes .entry)) n (Fires (now (codes .entry)) (now (valid .entry)) (now (lists .entry)) (now (keys .entry)) (now (done .entry)) n (t .e) (t .spans) family) (FromFamily (now (codes .entry)) (now (lists .entry)) (now (keys .entry)) (now (done .entry)) n (t .e) family) (now (keys .exit)) (now (spans .exit)) (now (slots .exit)) (now (links .exit)) (now (notes .exit)) r ⌝ }
 {
     let limit = t.limit;
@@ -71,7 +73,7 @@ fn fire_body(
     t: Turn,
     body: usize,
 ) -> usize
-    requires { ⌜ Ready (now keys) (now spans) (now slots) (now links) (now notes) n (t .limit) (now codes) (now valid) (now lists) body ⌝ ∗ ⌜ Firing (now keys) (now done) n t ⌝ ∗ ⌜ InFamily (now keys) (t .e) (familyOf (now codes) body) ⌝ ∗ ⌜ Formed (now codes) (now lists) ⌝ }
+    requires { ⌜ Ready (now keys) (now spans) (now slots) (now links) (now notes) n (t .limit) (now codes) (now valid) (now lists) body ⌝ ∗ ⌜ Firing (now done) n t ⌝ ∗ ⌜ InFamily (now keys) (t .e) (familyOf (now codes) body) ⌝ ∗ ⌜ Formed (now codes) (now lists) ⌝ }
     ensures { λ r. ⌜ Gains (t .limit) (now (keys .entry)) (now (spans .entry)) (now (notes .entry)) n (Headed (now (codes .entry)) (now (valid .entry)) (now (lists .entry)) body (ByCode (now (keys .entry)) (now (done .entry)) n (t .e) (t .spans) (getD (now (codes .entry)) body 0))) (FromHeads (now (codes .entry)) (now (lists .entry)) body (t .e + 1) (Offers (now (keys .entry)) (now (done .entry)) n (t .e) (getD (now (codes .entry)) body 0))) (now (keys .exit)) (now (spans .exit)) (now (slots .exit)) (now (links .exit)) (now (notes .exit)) r ⌝ }
 {
     let d = t.spans & heads::body_spans(valid, lists, body);
@@ -85,13 +87,7 @@ fn fire_body(
     }
     let own = (t.e + 1) as u16;
     if m.each {
-        let p = Plan {
-            limit: t.limit,
-            body,
-            start: m.start,
-            own,
-            offer,
-        };
+        let p = plan_of(t.limit, body, m.start, own, offer);
         return pairs::with_each(
             keys,
             spans,
@@ -106,13 +102,31 @@ fn fire_body(
             p,
         );
     }
-    let g = Gift {
-        limit: t.limit,
+    let g = gift_of(t.limit, body, offer, own, m.other);
+    heads::add_heads(keys, spans, slots, links, notes, codes, valid, lists, n, g)
+}
+
+fn plan_of(limit: usize, body: usize, start: usize, own: u16, offer: Offer) -> Plan
+    ensures { λ r. ⌜ r ≡ record { limit = limit; body = body; start = start; own = own; offer = offer } ⌝ }
+{
+    Plan {
+        limit,
+        body,
+        start,
+        own,
+        offer,
+    }
+}
+
+fn gift_of(limit: usize, body: usize, offer: Offer, own: u16, other: u16) -> Gift
+    ensures { λ r. ⌜ r ≡ record { limit = limit; body = body; set = offer .set; spans = offer .spans; own = own; other = other } ⌝ }
+{
+    Gift {
+        limit,
         body,
         set: offer.set,
         spans: offer.spans,
         own,
-        other: m.other,
-    };
-    heads::add_heads(keys, spans, slots, links, notes, codes, valid, lists, n, g)
+        other,
+    }
 }

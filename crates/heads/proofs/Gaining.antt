@@ -1,11 +1,10 @@
 -- What is added to the entries: nothing, one key, one part after another.
 use mathlib.Core.Path.{_≡_, refl, sym, _∙_, subst⁻¹, subst₃}
 use mathlib.Core.Logic.{_⊎_, inl, inr}
-use mathlib.Core.Bool.{Bool, true, false}
 use mathlib.Core.List.{List}
 use Prim.Native.Nat.{ℕ, zero, suc, _+_, _/_, _%_, _≤_, _<_}
 use native.Mathlib.Omega.{arith}
-use borrow.Author.Tests.{ltb-true, ltb-false, lt-ltb, le-ltb}
+use borrow.Author.Tests.{lt-ltb, le-ltb}
 use lib.Arith.{bin-ind}
 use lib.Dec.{ltb}
 use lib.ListN.{length, getD}
@@ -14,6 +13,7 @@ use Rattle.meaning.specs.Table.{bit}
 use Rattle.meaning.proofs.Bits.{bit-zero, bit-suc}
 use Rattle.store.specs.Entries.{Has, Added}
 use Rattle.store.specs.Notes.{word, noted, Leveled}
+pub use Rattle.store.proofs.Chains.{below-or-not}
 use Rattle.store.proofs.Stores.{distinct-keys, grown-refl, grown-trans}
 use Rattle.store.proofs.Notes.{word-same, noted-old, noted-at, noted-first, noted-second, noted-length, noted-all}
 use Rattle.heads.specs.Gaining.{Spanned, Origin, Kept, Over, Noted, Gains}
@@ -26,14 +26,6 @@ some-bit = bin-ind (λ (n : ℕ). (n ≡ 0 → ⊥) → (s : ℕ) × (bit n s �
     go : (n : ℕ) → ((n / 2 ≡ 0 → ⊥) → (s : ℕ) × (bit (n / 2) s ≡ 1)) → (n ≡ 0 → ⊥) → (d : ℕ) → n % 2 ≡ d → (s : ℕ) × (bit n s ≡ 1)
     go n rec h zero q = let r = rec (λ z. h (omega arith)) in (suc (r .0), bit-suc n (r .0) ∙ r .1)
     go n rec h (suc d) q = (0, bit-zero n ∙ omega arith)
-
--- below, or not
-pub below-or-not : (a b : ℕ) → (a < b) ⊎ (b ≤ a)
-below-or-not a b = go (ltb a b) refl
-  where
-    go : (t : Bool) → ltb a b ≡ t → (a < b) ⊎ (b ≤ a)
-    go true e = inl (ltb-true a b e)
-    go false e = inr (ltb-false a b e)
 
 -- what the entries have with what is new
 abbrev pub With : List ℕ → List ℕ → ℕ → Spanned → ℕ → Type 0

@@ -5,10 +5,10 @@ use mathlib.Core.List.{List}
 use Prim.Native.Nat.{ℕ, _-_, _≤_, _<_, zero-le}
 use native.Mathlib.Omega.{arith}
 use Rattle.store.specs.Entries.{latest}
-use Rattle.store.proofs.Chains.{latest-below, latest-some, latest-none}
+use Rattle.store.proofs.Chains.{below-or-not, latest-below, latest-some, latest-none}
 use Rattle.heads.specs.Gaining.{Spanned, Origin, Kept, Gains}
 use Rattle.heads.specs.Walks.{On, From, Along}
-use Rattle.heads.proofs.Gaining.{below-or-not, gains-none, gains-same, gains-over, gains-then}
+use Rattle.heads.proofs.Gaining.{gains-none, gains-same, gains-over, gains-then}
 
 module _ (family : ℕ → ℕ) (f count : ℕ) where
   pub on-latest : (c m : ℕ) → m ≤ count → c ≡ latest family f m → On family f count c

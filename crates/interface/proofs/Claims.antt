@@ -17,7 +17,7 @@ use Rattle.file.specs.Format.{credentials}
 use Rattle.file.specs.Conditions.{Accepted}
 use Rattle.file.proofs.Accepted.{accepted-fits}
 use Rattle.asking.specs.Asking.{Request, StepLists}
-use Rattle.completing.specs.Completing.{Lent, ending, completing}
+use Rattle.completing.specs.Completing.{Lent, tableEnding, completing}
 use Rattle.querying.specs.Querying.{Counts, levelFor}
 use Rattle.checking.proofs.Parts.{Agree, AgreeBelow}
 use Rattle.checking.proofs.Claims.{part-before-count}
@@ -49,7 +49,7 @@ module _ (f : List ℕ) (before after : Lent) (count : ℕ) (replied : count ≡
   table-sizes : TableSizes before L
   table-sizes = Completed.sizes f before after count replied lists small
 
-  says : ending (done count) (lentIn after .roles) (lentIn after .sets) (lentIn after .spans) ≡ completing f (lentIn before)
+  says : tableEnding (done count) (lentIn after .roles) (lentIn after .sets) (lentIn after .spans) ≡ completing f (lentIn before)
   says = Completed.as-entries f before after count replied lists small
 
   claim : JointClaim f (lentIn after) (length (lentIn before .roles)) count q

@@ -16,10 +16,10 @@ use Rattle.file.specs.Conditions.{Accepted}
 use Rattle.file.proofs.First.{first-holds, holds-first, numbered-append}
 use Rattle.file.proofs.Refusals.{accepted-exact}
 use Rattle.file.proofs.Accepted.{accepted-fits}
-use Rattle.ends.proofs.Surveying.{reading-numbered}
+use Rattle.survey.proofs.Surveying.{reading-numbered}
 use Rattle.asking.proofs.Asked.{all-left, all-right}
 use Rattle.writing.specs.Columns.{column}
-use Rattle.completing.specs.Completing.{Lent, lentRow, fullRow, replyTo, ending, completing}
+use Rattle.completing.specs.Completing.{Lent, lentRow, tableFullRow, replyTo, tableEnding, completing}
 use Rattle.codec.specs.Bytes.{bytesOf, entries}
 use Rattle.codec.proofs.Entries.{length-entries}
 use Rattle.replies.specs.Interface.{word, notWhole, entryCount}
@@ -75,8 +75,8 @@ module _ (f : List ℕ) (before after : Lent) (count : ℕ) (replied : count ≡
   value : replyTo f (lentIn before) ≡ done (length rows)
   unfolding replyTo
   value =
-      word-done (λ (n : ℕ). n) (reading f ++ (lentRow (lentIn before) ∷ fullRow f (lentIn before) ∷ [])) (length rows)
-      (numbered-append (reading f) (lentRow (lentIn before) ∷ fullRow f (lentIn before) ∷ []) (reading-numbered f) tt)
+      word-done (λ (n : ℕ). n) (reading f ++ (lentRow (lentIn before) ∷ tableFullRow f (lentIn before) ∷ [])) (length rows)
+      (numbered-append (reading f) (lentRow (lentIn before) ∷ tableFullRow f (lentIn before) ∷ []) (reading-numbered f) tt)
       (subst (λ (o : Outcome ℕ). word (λ n. n) o < 4294967296) by-entries low)
 
   -- the reply is the count
@@ -87,7 +87,7 @@ module _ (f : List ℕ) (before after : Lent) (count : ℕ) (replied : count ≡
   pub accepted : Accepted f
   unfolding replyTo
   accepted =
-      let more = lentRow (lentIn before) ∷ fullRow f (lentIn before) ∷ [] in
+      let more = lentRow (lentIn before) ∷ tableFullRow f (lentIn before) ∷ [] in
       accepted-exact {A = ℕ} 0 f .0 (holds-first (reading f) 0 (all-left (λ r. not (r .holds)) (reading f) more (first-holds (reading f ++ more) (length rows) (length rows) value)))
 
   module _ (k : ℕ) (field : Row → ℕ) (whole : (n : ℕ) → k * n / k ≡ n) (some : 0 < 256 ^ k) (fit : (x : Row) → Mem x rows → field x < 256 ^ k) where
@@ -107,11 +107,11 @@ module _ (f : List ℕ) (before after : Lent) (count : ℕ) (replied : count ≡
     column-same list other bytes e = ap (entries k) e ∙ column-read list ∙ sym (column-left other)
 
   -- what the bytes hold is what completing leaves in lists of as many entries
-  pub as-entries : ending (done count) (lentIn after .roles) (lentIn after .sets) (lentIn after .spans) ≡ completing f (lentIn before)
+  pub as-entries : tableEnding (done count) (lentIn after .roles) (lentIn after .sets) (lentIn after .spans) ≡ completing f (lentIn before)
   unfolding completing completeBytes
   as-entries =
       let w = accepted-fits f accepted in
       let a = column-same 4 (λ x. x .role) (λ n. omega arith) (omega arith) (λ x m. let l = row-low (credentials f) w x m .0 in omega arith) (before .roles) (lentIn before .roles) (after .roles) (ap (λ (l : Lent). l .roles) lists) in
       let b = column-same 4 (λ x. x .set) (λ n. omega arith) (omega arith) (λ x m. let l = row-low (credentials f) w x m .1 in omega arith) (before .sets) (lentIn before .sets) (after .sets) (ap (λ (l : Lent). l .sets) lists) in
       let c = column-same 8 (λ x. x .spans) (λ n. omega arith) (omega arith) (λ x m. let l = spans-low (credentials f) w x m (accepted .few) in omega arith) (before .spans) (lentIn before .spans) (after .spans) (ap (λ (l : Lent). l .spans) lists) in
-      λ j. ending (sym (sym by-entries ∙ counted) j) (a j) (b j) (c j)
+      λ j. tableEnding (sym (sym by-entries ∙ counted) j) (a j) (b j) (c j)

@@ -16,7 +16,7 @@ use Rattle.file.specs.Conditions.{Accepted}
 use Rattle.file.proofs.Claims.{as-many-credentials}
 use Rattle.file.proofs.Accepted.{accepted-fits}
 use Rattle.asking.specs.Asking.{Request, StepLists, stepLists, size, oneLength}
-use Rattle.derivation.specs.Derivation.{words}
+use Rattle.derivation.specs.HandedOut.{words}
 use Rattle.querying.specs.Querying as Q
 use Rattle.querying.specs.Querying.{Counts, counts, replyWith, querying, Queried}
 use Rattle.checking.specs.Checking.{checking}
@@ -119,14 +119,14 @@ module _ (f : List ℕ) (a : Accepted f) (q : Request) (b b′ : StepLists) (L r
     few = z .few;
   }
 
-  lists-left : Q.ending answer (stepListsIn b′) ≡ querying f q (stepListsIn b) ss
+  lists-left : Q.queryEnding answer (stepListsIn b′) ≡ querying f q (stepListsIn b) ss
   unfolding queryBytes querying
   lists-left =
       let c = words-read (λ s. s .credential) fit-credential (b .credential) (b′ .credential) (z .credential) (ap (λ (l : StepLists). l .credential) (d .lists)) in
       let x = words-read (λ s. s .first) fit-first (b .first) (b′ .first) (z .first) (ap (λ (l : StepLists). l .first) (d .lists)) in
       let y = words-read (λ s. s .second) fit-second (b .second) (b′ .second) (z .second) (ap (λ (l : StepLists). l .second) (d .lists)) in
       let v = words-read (λ s. s .set) fit-set (b .sets) (b′ .sets) (z .sets) (ap (λ (l : StepLists). l .sets) (d .lists)) in
-      λ j. Q.ending (by-entries j) (stepLists (c j) (x j) (y j) (v j))
+      λ j. Q.queryEnding (by-entries j) (stepLists (c j) (x j) (y j) (v j))
 
   -- the query on entries
   pub as-entries : Queried f q (stepListsIn b) answer (stepListsIn b′)

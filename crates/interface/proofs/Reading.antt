@@ -8,7 +8,7 @@ use lib.Dec.{T, eqb, T-not}
 use lib.ListN.{length, getD, replicate, length-replicate}
 use Rattle.meaning.specs.Lists.{if}
 use Rattle.meaning.proofs.Tests.{and-left, and-right, eq-in}
-use Rattle.file.specs.Refusals.{Row, Outcome, done, refused, first, left}
+use Rattle.file.specs.Refusals.{RefusalRow, Outcome, done, refused, first, left}
 use Rattle.file.proofs.First.{numbered}
 use Rattle.codec.specs.Bytes.{entry, bytesOf, firstEntries, entries}
 use Rattle.codec.proofs.Entries.{length-bytesOf, first-bytesOf, bytesOf-zeros}
@@ -73,7 +73,7 @@ entry-same (suc k) (x ∷ xs) (y ∷ ys) h =
 
 -- ---- a reply below every refusal's is a value
 
-pub word-done : {A : Type 0} (value : A → ℕ) (rows : List Row) (a : A) → T (numbered rows) → word value (first rows a) < 4294967296 → first rows a ≡ done a
+pub word-done : {A : Type 0} (value : A → ℕ) (rows : List RefusalRow) (a : A) → T (numbered rows) → word value (first rows a) < 4294967296 → first rows a ≡ done a
 word-done value [] a t l = refl
 word-done {A} value (x ∷ rows) a t l =
     go (x .holds) l (word-done value rows a (and-right (not (eqb (x .number) 0)) (numbered rows) t))

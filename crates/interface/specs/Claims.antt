@@ -9,7 +9,7 @@ use lib.ListN.{length, take}
 use Rattle.meaning.specs.Proofs.{Step, Proof}
 use Rattle.file.specs.Format.{credentials}
 use Rattle.asking.specs.Asking.{Request, StepLists, stepIn, stepsIn}
-use Rattle.derivation.specs.Derivation.{HandedOut}
+use Rattle.derivation.specs.HandedOut.{HandedOut}
 use Rattle.completing.specs.Completing.{Lent}
 use Rattle.joint.specs.Joint.{InRange, InWrittenValidity, SomeProof}
 use Rattle.replies.specs.Interface.{word, stepListsIn}

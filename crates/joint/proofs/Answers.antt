@@ -18,10 +18,11 @@ use Rattle.meaning.proofs.Least.{provable-derivable, least-counted, proof-bound
 use Rattle.file.specs.Refusals.{Outcome, done, refused, first, left}
 use Rattle.file.specs.Format.{credentials}
 use Rattle.file.specs.Reading.{between}
+use Rattle.file.proofs.Claims.{within-format}
 use Rattle.asking.specs.Asking.{Request, StepLists, stepLists, stepIn, stepsIn, size, oneLength, Askable}
 use Rattle.asking.proofs.Asked.{askable-passes}
-use Rattle.derivation.specs.Derivation.{HandedOut, words}
-use Rattle.querying.specs.Querying.{Counts, counts, fullRow, noneRow, levelFor, replyWith, Ending, ending, querying, Queried}
+use Rattle.derivation.specs.HandedOut.{HandedOut, words}
+use Rattle.querying.specs.Querying.{Counts, counts, minuteFullRow, noneRow, levelFor, replyWith, QueryEnding, queryEnding, querying, Queried}
 use Rattle.querying.proofs.Working.{same-lengths}
 use Rattle.checking.specs.Checking.{checking}
 use Rattle.checking.proofs.Claims.{passes-exactly}
@@ -38,7 +39,10 @@ words-length field n ss h =
 abbrev noStep : Step
 noStep = record { credential = 0; first = 0; second = 0; set = 0 }
 
-module _ (f : List ℕ) (q : Request) (t t′ : StepLists) (reply : Outcome Counts) (a : Askable f q t) (w : FitsAll (credentials f)) (room : length (members (credentials f) (q .minute)) ≤ size t) (d : Queried f q t reply t′) where
+module _ (f : List ℕ) (q : Request) (t t′ : StepLists) (reply : Outcome Counts) (a : Askable f q t) (room : length (members (credentials f) (q .minute)) ≤ size t) (d : Queried f q t reply t′) where
+  w : FitsAll (credentials f)
+  w = within-format f (a .accepted)
+
   abbrev M : List Membership
   M = members (credentials f) (q .minute)
 
@@ -56,12 +60,12 @@ module _ (f : List ℕ) (q : Request) (t t′ : StepLists) (reply : Outcome Coun
 
   replies : reply ≡ replyWith f q t (d .steps)
   unfolding querying
-  replies = ap (λ (e : Ending). e .reply) (d .ends)
+  replies = ap (λ (e : QueryEnding). e .reply) (d .ends)
 
   -- the rows above 13 do not hold
   decided : reply ≡ byHas (has (member (q .role) (q .set)) M)
   unfolding replyWith
-  decided = replies ∙ askable-passes f q t a (fullRow f q (size t) ∷ noneRow f q ∷ []) answer ∙ rw (le-ltb (size t) (length M) room) refl
+  decided = replies ∙ askable-passes f q t a (minuteFullRow f q (size t) ∷ noneRow f q ∷ []) answer ∙ rw (le-ltb (size t) (length M) room) refl
 
   none-refused : ¬ SomeProof f q → reply ≡ refused 13 0
   none-refused n = decided ∙ ap byHas (is-false (has (member (q .role) (q .set)) M) (λ h. n (proved h)))
@@ -87,19 +91,19 @@ module _ (f : List ℕ) (q : Request) (t t′ : StepLists) (reply : Outcome Coun
 
     by-credential : t′ .credential ≡ words (λ s. s .credential) (size t) ss
     unfolding querying
-    by-credential = ap (λ (e : Ending). e .lists .credential) (d .ends) ∙ list (λ s. s .credential) (t .credential)
+    by-credential = ap (λ (e : QueryEnding). e .lists .credential) (d .ends) ∙ list (λ s. s .credential) (t .credential)
 
     by-first : t′ .first ≡ words (λ s. s .first) (size t) ss
     unfolding querying
-    by-first = ap (λ (e : Ending). e .lists .first) (d .ends) ∙ list (λ s. s .first) (t .first)
+    by-first = ap (λ (e : QueryEnding). e .lists .first) (d .ends) ∙ list (λ s. s .first) (t .first)
 
     by-second : t′ .second ≡ words (λ s. s .second) (size t) ss
     unfolding querying
-    by-second = ap (λ (e : Ending). e .lists .second) (d .ends) ∙ list (λ s. s .second) (t .second)
+    by-second = ap (λ (e : QueryEnding). e .lists .second) (d .ends) ∙ list (λ s. s .second) (t .second)
 
     by-set : t′ .sets ≡ words (λ s. s .set) (size t) ss
     unfolding querying
-    by-set = ap (λ (e : Ending). e .lists .sets) (d .ends) ∙ list (λ s. s .set) (t .sets)
+    by-set = ap (λ (e : QueryEnding). e .lists .sets) (d .ends) ∙ list (λ s. s .set) (t .sets)
 
     same-size : size t′ ≡ size t
     same-size = ap length by-credential ∙ words-length (λ s. s .credential) (size t) ss few

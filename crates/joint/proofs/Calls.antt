@@ -16,25 +16,25 @@ use Rattle.checking.specs.Checking as Checking
 use Rattle.checking.specs.Checking.{checking}
 use Rattle.joint.specs.declared.Replies.{Replies}
 use Rattle.joint.specs.Joint.{InRange, SomeProof, Given}
-use Rattle.joint.specs.Calls.{stepsOf, Holds, Together}
+use Rattle.joint.specs.Calls.{stepsOf, AsDemanded, Together}
 use Rattle.joint.proofs.Claims.{demand-3}
 
 abbrev stepsIn : Outcome Counts → ℕ
 stepsIn (done c) = c .steps
 stepsIn (refused n p) = 0
 
-steps-said : (a : Answer) → stepsOf a ≡ stepsIn (Querying.says a)
+steps-said : (a : Answer) → stepsOf a ≡ stepsIn (Querying.saysAnswer a)
 steps-said (A.Proof steps level) = refl
 steps-said (A.Refused n p) = refl
 
-pub together : {f : List ℕ} {q : Request} {before after : Lent} {t t′ : StepLists} {r : Replies} → Completing.ending (Completing.says (r .completed)) (after .roles) (after .sets) (after .spans) ≡ completing f before
-    → Queried f q t (Querying.says (r .answer)) t′ → Checking.says (r .checked) ≡ checking f q t′ (stepsOf (r .answer)) → Together f q before after t t′ r
+pub together : {f : List ℕ} {q : Request} {before after : Lent} {t t′ : StepLists} {r : Replies} → Completing.tableEnding (Completing.saysCompleted (r .completed)) (after .roles) (after .sets) (after .spans) ≡ completing f before
+    → Queried f q t (Querying.saysAnswer (r .answer)) t′ → Checking.saysChecked (r .checked) ≡ checking f q t′ (stepsOf (r .answer)) → Together f q before after t t′ r
 together {f} {q} {before} {after} {t} {t′} {r} c d e = record { completed = c; queried = d; checked = e; demand3 = holds }
   where
-    holds : (count : ℕ) → Completing.says (r .completed) ≡ done count → InRange f q → oneLength t ≡ true → size t ≡ length (before .roles) → Holds f q after t′ r count
+    holds : (count : ℕ) → Completing.saysCompleted (r .completed) ≡ done count → InRange f q → oneLength t ≡ true → size t ≡ length (before .roles) → AsDemanded f q after t′ r count
     holds count s i l z =
-        let j = demand-3 f before after count (ap (λ (o : Outcome ℕ). Completing.ending o (after .roles) (after .sets) (after .spans)) (sym s) ∙ c) q i in
-        let w = j .query t t′ (Querying.says (r .answer)) l z d in
+        let j = demand-3 f before after count (ap (λ (o : Outcome ℕ). Completing.tableEnding o (after .roles) (after .sets) (after .spans)) (sym s) ∙ c) q i in
+        let w = j .query t t′ (Querying.saysAnswer (r .answer)) l z d in
         record {
           validity = j .validity;
           given = λ p. (

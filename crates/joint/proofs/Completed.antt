@@ -30,7 +30,7 @@ use Rattle.asking.specs.Asking.{Request}
 use Rattle.asking.proofs.Asked.{all-left, all-right}
 use Rattle.writing.specs.Columns.{column}
 use Rattle.writing.proofs.Gathering.{keys-ascending}
-use Rattle.completing.specs.Completing.{Lent, lentRow, fullRow, replyTo, Ending, ending, completing}
+use Rattle.completing.specs.Completing.{Lent, lentRow, tableFullRow, replyTo, TableEnding, tableEnding, completing}
 use Rattle.joint.specs.Joint.{rowsIn, InWrittenValidity, SomeProof}
 use Rattle.joint.proofs.Lists.{positions, column-at}
 
@@ -45,7 +45,7 @@ members-within-table cs w m =
         let r = written-at (ends cs) (table cs) (p .role) (p .set) m .0 (written-derivable cs w m (p .role) (p .set) .1 (members-derivable cs w m .0 h)) .1 in
         cast (λ i. member (sym (r .2) i) (sym (r .3) i)) (map-in key (r .1))
 
-module _ (f : List ℕ) (before after : Lent) (count : ℕ) (says : ending (done count) (after .roles) (after .sets) (after .spans) ≡ completing f before) where
+module _ (f : List ℕ) (before after : Lent) (count : ℕ) (says : tableEnding (done count) (after .roles) (after .sets) (after .spans) ≡ completing f before) where
   abbrev rows : List Row
   rows = table (credentials f)
 
@@ -54,14 +54,14 @@ module _ (f : List ℕ) (before after : Lent) (count : ℕ) (says : ending (done
 
   replied : done count ≡ replyTo f before
   unfolding completing
-  replied = ap (λ (e : Ending). e .reply) says
+  replied = ap (λ (e : TableEnding). e .reply) says
 
-  clear : T (noneHolds (reading f ++ (lentRow before ∷ fullRow f before ∷ [])))
+  clear : T (noneHolds (reading f ++ (lentRow before ∷ tableFullRow f before ∷ [])))
   unfolding replyTo
-  clear = first-holds (reading f ++ (lentRow before ∷ fullRow f before ∷ [])) (length rows) count (sym replied)
+  clear = first-holds (reading f ++ (lentRow before ∷ tableFullRow f before ∷ [])) (length rows) count (sym replied)
 
   pub accepted : Accepted f
-  accepted = accepted-exact {A = ℕ} 0 f .0 (holds-first (reading f) 0 (all-left (λ r. not (r .holds)) (reading f) (lentRow before ∷ fullRow f before ∷ []) clear))
+  accepted = accepted-exact {A = ℕ} 0 f .0 (holds-first (reading f) 0 (all-left (λ r. not (r .holds)) (reading f) (lentRow before ∷ tableFullRow f before ∷ []) clear))
 
   pub fits : FitsAll (credentials f)
   fits = accepted-fits f accepted
@@ -73,15 +73,15 @@ module _ (f : List ℕ) (before after : Lent) (count : ℕ) (says : ending (done
   -- the count is the table's
   pub counted : count ≡ length rows
   unfolding replyTo
-  counted = ap valueIn (replied ∙ holds-first (reading f ++ (lentRow before ∷ fullRow f before ∷ [])) (length rows) clear)
+  counted = ap valueIn (replied ∙ holds-first (reading f ++ (lentRow before ∷ tableFullRow f before ∷ [])) (length rows) clear)
 
   -- the table is no longer than the lists
   pub few : length rows ≤ L
   few =
       ltb-false L (length rows)
       (is-false (ltb L (length rows)) (T-not (ltb L (length rows))
-      (and-left (not (ltb L (length rows))) true (and-right (not (lentRow before .holds)) (not (fullRow f before .holds) && true)
-      (all-right (λ r. not (r .holds)) (reading f) (lentRow before ∷ fullRow f before ∷ []) clear)))))
+      (and-left (not (ltb L (length rows))) true (and-right (not (lentRow before .holds)) (not (tableFullRow f before .holds) && true)
+      (all-right (λ r. not (r .holds)) (reading f) (lentRow before ∷ tableFullRow f before ∷ []) clear)))))
 
   abbrev leftAs : (Row → ℕ) → List ℕ → List ℕ
   leftAs field list = left (replyTo f before) list (column field L rows)
@@ -91,15 +91,15 @@ module _ (f : List ℕ) (before after : Lent) (count : ℕ) (says : ending (done
 
   by-role : after .roles ≡ column (λ x. x .role) L rows
   unfolding completing
-  by-role = ap (λ (e : Ending). e .lists .roles) says ∙ lists (λ x. x .role) (before .roles)
+  by-role = ap (λ (e : TableEnding). e .lists .roles) says ∙ lists (λ x. x .role) (before .roles)
 
   by-set : after .sets ≡ column (λ x. x .set) L rows
   unfolding completing
-  by-set = ap (λ (e : Ending). e .lists .sets) says ∙ lists (λ x. x .set) (before .sets)
+  by-set = ap (λ (e : TableEnding). e .lists .sets) says ∙ lists (λ x. x .set) (before .sets)
 
   by-spans : after .spans ≡ column (λ x. x .spans) L rows
   unfolding completing
-  by-spans = ap (λ (e : Ending). e .lists .spans) says ∙ lists (λ x. x .spans) (before .spans)
+  by-spans = ap (λ (e : TableEnding). e .lists .spans) says ∙ lists (λ x. x .spans) (before .spans)
 
   -- the rows read from the lists are the table
   pub rows-read : rowsIn after count ≡ rows

@@ -1,5 +1,6 @@
 pub mod Lists
 pub mod Completed
 pub mod Answers
+pub mod Range
 pub mod Claims
 pub mod Calls

@@ -5,12 +5,8 @@ use Prim.Native.Nat.{ℕ, zero, suc, _+_, _≤_, _<_}
 use native.Mathlib.Omega.{arith}
 use lib.ListN.{length, getD, replicate, length-map, List·getD-append}
 use Rattle.meaning.specs.Lists.{upFrom, below}
+use Rattle.meaning.proofs.ListLaws.{zeros-at}
 use Rattle.file.proofs.Credentials.{getD-map-lt}
-
-zeros-at : (k i : ℕ) → _≡_ {A = ℕ} (getD (replicate k 0) i 0) 0
-zeros-at zero i = refl
-zeros-at (suc k) zero = refl
-zeros-at (suc k) (suc i) = zeros-at k i
 
 module _ {A : Type 0} (d : A) where
   -- a list is its elements by position

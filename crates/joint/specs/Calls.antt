@@ -24,16 +24,16 @@ stepsOf (A.Proof steps level) = steps
 stepsOf (A.Refused n p) = 0
 
 -- where the table was completed with count memberships, the request is in range and the step lists have completing's length
-pub record Holds (f : List ℕ) (q : Request) (after : Lent) (t′ : StepLists) (r : Replies) (count : ℕ) : Type 0 where
+pub record AsDemanded (f : List ℕ) (q : Request) (after : Lent) (t′ : StepLists) (r : Replies) (count : ℕ) : Type 0 where
   -- the minute stands in the written validity exactly when some proof exists
   pub validity : InWrittenValidity f after count q ↔ SomeProof f q
   -- if one exists, one was handed out, and the checker answered its level
-  pub given : SomeProof f q → (g : Given f q (Querying.says (r .answer)) t′) × (Checking.says (r .checked) ≡ done (g .counts .level))
+  pub given : SomeProof f q → (g : Given f q (Querying.saysAnswer (r .answer)) t′) × (Checking.saysChecked (r .checked) ≡ done (g .counts .level))
   -- 13 exactly when none exists
-  pub none : Querying.says (r .answer) ≡ refused 13 0 ↔ ¬ SomeProof f q
+  pub none : Querying.saysAnswer (r .answer) ≡ refused 13 0 ↔ ¬ SomeProof f q
 
 pub record Together (f : List ℕ) (q : Request) (before after : Lent) (t t′ : StepLists) (r : Replies) : Type 0 where
-  pub completed : Completing.ending (Completing.says (r .completed)) (after .roles) (after .sets) (after .spans) ≡ completing f before
-  pub queried : Queried f q t (Querying.says (r .answer)) t′
-  pub checked : Checking.says (r .checked) ≡ checking f q t′ (stepsOf (r .answer))
-  pub demand3 : (count : ℕ) → Completing.says (r .completed) ≡ done count → InRange f q → oneLength t ≡ true → size t ≡ length (before .roles) → Holds f q after t′ r count
+  pub completed : Completing.tableEnding (Completing.saysCompleted (r .completed)) (after .roles) (after .sets) (after .spans) ≡ completing f before
+  pub queried : Queried f q t (Querying.saysAnswer (r .answer)) t′
+  pub checked : Checking.saysChecked (r .checked) ≡ checking f q t′ (stepsOf (r .answer))
+  pub demand3 : (count : ℕ) → Completing.saysCompleted (r .completed) ≡ done count → InRange f q → oneLength t ≡ true → size t ≡ length (before .roles) → AsDemanded f q after t′ r count

@@ -13,7 +13,7 @@ use Rattle.meaning.specs.Proofs.{Step, Proof, Provable}
 use Rattle.file.specs.Refusals.{Outcome, done, refused}
 use Rattle.file.specs.Format.{credentials}
 use Rattle.asking.specs.Asking.{Request, StepLists, stepIn, stepsIn, size, oneLength, within}
-use Rattle.derivation.specs.Derivation.{HandedOut}
+use Rattle.derivation.specs.HandedOut.{HandedOut}
 use Rattle.completing.specs.Completing.{Lent, completing}
 use Rattle.completing.specs.Completing as Completing
 use Rattle.querying.specs.Querying.{Counts, Queried}
@@ -70,6 +70,6 @@ pub record JointClaim (f : List ℕ) (after : Lent) (L count : ℕ) (q : Request
 abbrev pub Demand3 : Type 0
 Demand3 =
     (f : List ℕ) (before after : Lent) (count : ℕ)
-    → Completing.ending (done count) (after .roles) (after .sets) (after .spans) ≡ completing f before
+    → Completing.tableEnding (done count) (after .roles) (after .sets) (after .spans) ≡ completing f before
     → (q : Request) → InRange f q
     → JointClaim f after (length (before .roles)) count q

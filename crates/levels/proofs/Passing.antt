@@ -14,10 +14,9 @@ use Rattle.meaning.specs.Table.{bit}
 use Rattle.meaning.proofs.Levels.{gives-more}
 use Rattle.store.specs.Entries.{keyOf, Grown}
 use Rattle.store.specs.Notes.{word, levelOf}
-use Rattle.store.proofs.Chains.{last-or-below}
+use Rattle.store.proofs.Chains.{last-or-below, below-or-not}
 use Rattle.store.proofs.Notes.{word-same, level-same}
 use Rattle.heads.specs.Gaining.{Noted}
-use Rattle.heads.proofs.Gaining.{below-or-not}
 use Rattle.closure.specs.Closure.{Held, Found, Policy, Closed}
 use Rattle.premises.specs.Combining.{Keyed}
 use Rattle.closing.specs.Giving.{FromEntry, Gave}

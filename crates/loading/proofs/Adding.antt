@@ -9,7 +9,8 @@ use Rattle.meaning.specs.Table.{bit}
 use Rattle.rules.specs.declared.Use.{Use}
 use Rattle.rules.specs.Uses.{Uses, Listed, Fitting, Proper, Formed, HeadOf, UseAdded, bodyOfHead, headsIn, sourceIn}
 use Rattle.rules.proofs.Forming.{use-formed}
-use Rattle.heads.proofs.Gaining.{some-bit, below-or-not}
+use Rattle.store.proofs.Chains.{below-or-not}
+use Rattle.heads.proofs.Gaining.{some-bit}
 use Rattle.loading.specs.Steps.{Room, Sources, UsesAdded}
 
 -- one use in the spans v, with its source

@@ -4,14 +4,10 @@ use mathlib.Core.List.{List}
 use Prim.Native.Nat.{ℕ, zero, suc}
 use native.Mathlib.Nat.{not-suc-le-zero}
 use lib.ListN.{length, getD, replicate, length-replicate}
+use Rattle.meaning.proofs.ListLaws.{zeros-at}
 use Rattle.store.proofs.Stores.{empty-stored}
 use Rattle.heads.specs.Gaining.{Kept}
 use Rattle.loading.specs.Loading.{NoUses}
-
-zeros-at : (n i : ℕ) → _≡_ {A = ℕ} (getD (replicate n 0) i 0) 0
-zeros-at zero i = refl
-zeros-at (suc n) zero = refl
-zeros-at (suc n) (suc i) = zeros-at n i
 
 module _ {l : List ℕ} (n : ℕ) (e : l ≡ replicate n 0) where
   pub zero-at : (i : ℕ) → getD l i 0 ≡ 0

@@ -13,13 +13,13 @@ use Rattle.policy.specs.Policy.{credentialOf, statementIn, bodyOf}
 use Rattle.rules.specs.declared.Use.{Use}
 use Rattle.rules.specs.Uses.{UsedAs}
 use Rattle.loading.specs.Loading.{Masked}
-use Rattle.loading.specs.Steps.{Stated, firstUse, secondUse, Room, UsesAdded, BodyUses, UseOf}
+use Rattle.loading.specs.Steps.{InFormat, firstUse, secondUse, Room, UsesAdded, BodyUses, UseOf}
 use Rattle.loading.proofs.Usables.{set-unused, role-once, first-used, second-used}
 use Rattle.loading.proofs.Adding.{OneUse, none-added, both-added, uses-same}
 
 -- ---- a statement's uses in the spans v
 
-module _ (s : Statement) (h : Stated s) (some : s .kind ≡ 0 → ⊥) (v i : ℕ) where
+module _ (s : Statement) (h : InFormat s) (some : s .kind ≡ 0 → ⊥) (v i : ℕ) where
   abbrev First : Use → ℕ → ℕ → Type 0
   First = OneUse (firstUse s) v i
 

@@ -12,10 +12,11 @@ use lib.Pow.{pow-pos, pow-lt, pow-mono}
 use Rattle.meaning.specs.Credentials.{Period, covers}
 use Rattle.meaning.specs.Table.{bit, digit}
 use Rattle.meaning.proofs.Bits.{bit-zero, bit-suc, bit-of-zero}
+use Rattle.meaning.proofs.Rows.{digit-below-two, digit-out, digit-in}
 use Rattle.meaning.proofs.Spans.{covers-in, covers-out}
-use Rattle.ends.specs.Ends.{Rising, FirstAt}
-use Rattle.ends.proofs.Insertion.{below-mid}
-use Rattle.heads.proofs.Gaining.{below-or-not}
+use Rattle.survey.specs.Surveying.{Rising, FirstAt}
+use Rattle.survey.proofs.Insertion.{below-mid}
+use Rattle.store.proofs.Chains.{below-or-not}
 use Rattle.loading.specs.Loading.{Spans, During, Masked}
 
 -- ---- a number with the bits from p up to q
@@ -104,18 +105,6 @@ module _ {es : List ℕ} {n : ℕ} (w : Spans es n) where
 
 -- ---- one span
 
-digit-one : (b : Bool) → digit b ≡ 1 → T b
-digit-one true e = tt
-digit-one false e = absurd (omega arith)
-
-one-digit : (b : Bool) → T b → digit b ≡ 1
-one-digit true t = refl
-one-digit false t = absurd t
-
-digit-small : (b : Bool) → digit b < 2
-digit-small true = omega arith
-digit-small false = omega arith
-
 module _ (es : List ℕ) (v : Period) where
   pub first-out : (s : ℕ) → During es 1 v s → (s ≡ 0) × T (covers v (getD es 0 0))
   first-out s d = let e : s ≡ 0 = omega (arith, d .0) in (e, subst (λ (x : ℕ). T (covers v (getD es x 0))) e (covers-in v (getD es s 0) (d .1) (d .2)))
@@ -130,17 +119,17 @@ module _ (es : List ℕ) (v : Period) where
       b = covers v (getD es 0 0)
 
       zero-bit : bit r 0 ≡ digit b
-      zero-bit = ap (λ (x : ℕ). bit x 0) e ∙ bit-zero (digit b) ∙ mod-eq-of-lt (digit-small b)
+      zero-bit = ap (λ (x : ℕ). bit x 0) e ∙ bit-zero (digit b) ∙ mod-eq-of-lt (digit-below-two b)
 
       above : (s : ℕ) → bit r (suc s) ≡ 0
-      above s = let z : r / 2 ≡ 0 = omega (arith, e, digit-small b) in bit-suc r s ∙ ap (λ (x : ℕ). bit x s) z ∙ bit-of-zero s
+      above s = let z : r / 2 ≡ 0 = omega (arith, e, digit-below-two b) in bit-suc r s ∙ ap (λ (x : ℕ). bit x s) z ∙ bit-of-zero s
 
       out : (s : ℕ) → bit r s ≡ 1 → During es 1 v s
-      out zero h = first-in (digit-one b (sym zero-bit ∙ h))
+      out zero h = first-in (digit-out b (sym zero-bit ∙ h))
       out (suc s) h = absurd (omega (arith, above s))
 
       put : (s : ℕ) → During es 1 v s → bit r s ≡ 1
-      put zero d = zero-bit ∙ one-digit b (first-out 0 d .1)
+      put zero d = zero-bit ∙ digit-in b (first-out 0 d .1)
       put (suc s) d = absurd (omega (arith, d .0))
 
 -- ---- the first ends of some that ascend

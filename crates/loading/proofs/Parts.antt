@@ -6,14 +6,12 @@ use Prim.Native.Nat.{ℕ, _+_, _≤_, _<_}
 use native.Mathlib.Nat.{not-suc-le-zero}
 use native.Mathlib.Omega.{arith}
 use Rattle.policy.specs.Policy.{credentialOf}
-use Rattle.store.proofs.Chains.{last-or-below}
+use Rattle.store.proofs.Chains.{last-or-below, below-or-not}
 use Rattle.rules.specs.declared.Use.{Use}
 use Rattle.rules.specs.Uses.{Uses, Fitting, sourceOf, headsIn}
 use Rattle.rules.proofs.UseLaws.{listed-none, formed-none, uses-none}
-use Rattle.heads.proofs.Gaining.{below-or-not}
 use Rattle.loading.specs.Loading.{NoUses, Before, UsedIn, Sourced, UsesLoaded}
 use Rattle.loading.specs.Steps.{Room, UsesAdded, UseOf, Part}
-use Rattle.loading.proofs.Usables.{used-as, as-used}
 use Rattle.loading.proofs.Adding.{head-stays}
 
 -- ---- one more position
@@ -93,11 +91,11 @@ module _ {p es : List ℕ} {count i : ℕ} {codes valid lists : List ℕ} (w : P
       where
         to : (u : Use) (s : ℕ) → Fitting u → Uses codes valid lists u s ⊎ ((o : ℕ) × UseOf es count i (credentialOf p i) u s o) → Before i (Used u s) ⊎ Used u s i
         to u s f (inl x) = inl (w .exact u s f .0 x)
-        to u s f (inr (o, (d, (second, x, e)))) = inr (as-used second (credentialOf p i .statement .body) (credentialOf p i .statement .head) u x, d)
+        to u s f (inr (o, (d, (second, x, e)))) = inr ((second, x), d)
 
         from : (u : Use) (s : ℕ) → Fitting u → Before i (Used u s) ⊎ Used u s i → Uses codes valid lists u s ⊎ ((o : ℕ) × UseOf es count i (credentialOf p i) u s o)
         from u s f (inl x) = inl (w .exact u s f .1 x)
-        from u s f (inr (x, d)) = let y = used-as (credentialOf p i .statement .body) (credentialOf p i .statement .head) u x in inr (sourceOf (y .0) i, (d, (y .0, y .1, refl)))
+        from u s f (inr (x, d)) = inr (sourceOf (x .0) i, (d, (x .0, x .1, refl)))
 
   pub part-whole : {n : ℕ} → i ≡ n → UsesLoaded p n es count codes valid lists
   part-whole e = subst (λ (n : ℕ). UsesLoaded p n es count codes valid lists) e record { listed = w .listed; formed = w .formed; exact = w .exact; sourced = w .sourced }

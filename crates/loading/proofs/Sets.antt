@@ -16,7 +16,7 @@ use Rattle.heads.specs.Gaining.{Kept, Gains}
 use Rattle.heads.specs.Heads.{One}
 use Rattle.heads.proofs.Gaining.{some-bit, gains-none, gains-by, gains-same, gains-over, gains-then}
 use Rattle.loading.specs.Loading.{Masked, States, StatedIn, StatedBy, FactBy}
-use Rattle.loading.specs.Steps.{Stated, FactAt}
+use Rattle.loading.specs.Steps.{InFormat, FactAt}
 use Rattle.loading.proofs.Parts.{before-out, before-in}
 
 -- ---- one credential
@@ -31,7 +31,7 @@ module _ (p : List ℕ) (i : ℕ) (es : List ℕ) (count : ℕ) {st : Statement}
   same-kind : statementIn p i .kind ≡ st .kind
   same-kind = ap (λ (x : Statement). x .kind) (sym q)
 
-  pub other-stated : Stated (statementIn p i) → (st .kind ≡ 0 → ⊥) → (k s : ℕ) → StatedIn es count (credentialOf p i) k s → ⊥
+  pub other-stated : InFormat (statementIn p i) → (st .kind ≡ 0 → ⊥) → (k s : ℕ) → StatedIn es count (credentialOf p i) k s → ⊥
   other-stated h some k s x = let t = statementIn p i in none-stated (t .set) (t .first) (t .second) (t .kind) (h .kind) (λ z. some (sym same-kind ∙ z)) (t .head) k (x .0)
 
   -- kind 0 states its set in the spans of its period

@@ -7,42 +7,13 @@ use Prim.Native.Nat.{ℕ, _+_, _≤_, _<_}
 use native.Mathlib.Omega.{arith}
 use lib.Dec.{eqb}
 use Rattle.meaning.specs.Lists.{if}
-use Rattle.meaning.specs.Credentials.{Body, set, role, link, _∩_, _⊙_, _⊗_}
 use Rattle.file.proofs.Uses.{by-kind}
 use Rattle.policy.specs.declared.Statement.{Statement}
 use Rattle.policy.specs.Policy.{credentialOf, Decoded, statementIn, bodyBy, bodyOf}
 use Rattle.store.proofs.Chains.{equal-or-not}
 use Rattle.rules.specs.declared.Use.{Use}
 use Rattle.rules.specs.Uses.{useOf, UsedBy, UsedAs, Proper}
-use Rattle.loading.specs.Steps.{Stated, firstUse, secondUse}
-
--- ---- by the first premise, or by the second
-
-pub used-as : (e : Body) (Ar : ℕ) (u : Use) → UsedBy e Ar u → (second : Bool) × UsedAs second e Ar u
-used-as (set X) Ar u x = absurd x
-used-as (role Bs) Ar u x = (false, x)
-used-as (link Bs t) Ar u (inl x) = (false, x)
-used-as (link Bs t) Ar u (inr x) = (true, x)
-used-as (Bs ∩ Ct) Ar u (inl x) = (false, x)
-used-as (Bs ∩ Ct) Ar u (inr x) = (true, x)
-used-as (Bs ⊙ Ct) Ar u (inl x) = (false, x)
-used-as (Bs ⊙ Ct) Ar u (inr x) = (true, x)
-used-as (Bs ⊗ Ct) Ar u (inl x) = (false, x)
-used-as (Bs ⊗ Ct) Ar u (inr x) = (true, x)
-
-pub as-used : (second : Bool) (e : Body) (Ar : ℕ) (u : Use) → UsedAs second e Ar u → UsedBy e Ar u
-as-used false (set X) Ar u x = x
-as-used true (set X) Ar u x = x
-as-used false (role Bs) Ar u x = x
-as-used true (role Bs) Ar u x = absurd x
-as-used false (link Bs t) Ar u x = inl x
-as-used true (link Bs t) Ar u x = inr x
-as-used false (Bs ∩ Ct) Ar u x = inl x
-as-used true (Bs ∩ Ct) Ar u x = inr x
-as-used false (Bs ⊙ Ct) Ar u x = inl x
-as-used true (Bs ⊙ Ct) Ar u x = inr x
-as-used false (Bs ⊗ Ct) Ar u x = inl x
-as-used true (Bs ⊗ Ct) Ar u x = inr x
+use Rattle.loading.specs.Steps.{InFormat, firstUse, secondUse}
 
 -- ---- by the kind
 
@@ -96,7 +67,7 @@ if-below : (b : Bool) (x m : ℕ) → x < m → if b 0 x < m
 if-below true x m l = omega arith
 if-below false x m l = l
 
-module _ (s : Statement) (h : Stated s) (some : s .kind ≡ 0 → ⊥) where
+module _ (s : Statement) (h : InFormat s) (some : s .kind ≡ 0 → ⊥) where
   pub first-proper : Proper (firstUse s)
   first-proper =
       proper-role (s .first) (s .kind) (if (eqb (s .kind) 1) 0 (s .second)) (s .head) (h .first some) (omega arith) (h .kind)
@@ -121,10 +92,10 @@ module _ (s : Statement) (h : Stated s) (some : s .kind ≡ 0 → ⊥) where
       pair k l m = proper-role Ct k Bs Ar (h .second) (omega arith) m (λ e. absurd (omega arith)) (h .first some) (h .head)
 
 -- every use of a statement
-pub stated-proper : (s : Statement) → Stated s → (u : Use) → UsedBy (bodyOf s) (s .head) u → Proper u
-stated-proper s h u x = go (used-as (bodyOf s) (s .head) u x) (equal-or-not (s .kind) 0) (equal-or-not (s .kind) 1)
+pub stated-proper : (s : Statement) → InFormat s → (u : Use) → UsedBy (bodyOf s) (s .head) u → Proper u
+stated-proper s h u x = go x (equal-or-not (s .kind) 0) (equal-or-not (s .kind) 1)
   where
-    go : (second : Bool) × UsedAs second (bodyOf s) (s .head) u → (s .kind ≡ 0) ⊎ (s .kind ≡ 0 → ⊥) → (s .kind ≡ 1) ⊎ (s .kind ≡ 1 → ⊥) → Proper u
+    go : UsedBy (bodyOf s) (s .head) u → (s .kind ≡ 0) ⊎ (s .kind ≡ 0 → ⊥) → (s .kind ≡ 1) ⊎ (s .kind ≡ 1 → ⊥) → Proper u
     go (b, y) (inl e) _ = absurd (set-unused (s .set) (s .first) (s .second) (s .head) u (s .kind) e b y)
     go (false, y) (inr some) _ = subst⁻¹ Proper (first-used (s .set) (s .first) (s .second) (s .head) u (s .kind) (h .kind) some .0 y) (first-proper s h some)
     go (true, y) (inr some) (inl e) = absurd (role-once (s .set) (s .first) (s .second) (s .head) u (s .kind) e y)
@@ -132,7 +103,7 @@ stated-proper s h u x = go (used-as (bodyOf s) (s .head) u x) (equal-or-not (s .
 
 -- of a policy
 module _ {p : List ℕ} {n : ℕ} (d : Decoded p n) (i : ℕ) (l : i < n) where
-  pub decoded-stated : Stated (statementIn p i)
+  pub decoded-stated : InFormat (statementIn p i)
   decoded-stated = let f = d .fits i l in record { kind = f .kind; head = omega arith; first = f .first; second = omega arith; name = f .name }
 
   pub decoded-proper : (u : Use) → UsedBy (credentialOf p i .statement .body) (credentialOf p i .statement .head) u → Proper u

@@ -18,14 +18,16 @@ use Rattle.meaning.proofs.Spans.{covers-in, covers-out, ends-rising}
 use Rattle.meaning.proofs.Bits.{bit-of-zero}
 use Rattle.policy.specs.Policy.{credentialOf, credentialsOf, Decoded}
 use Rattle.policy.proofs.Policies.{decoded-fits}
-use Rattle.ends.specs.Ends.{Rising, padded}
+use Rattle.survey.specs.Ends.{padded}
+use Rattle.survey.specs.Surveying.{Rising}
 use Rattle.store.specs.Entries.{keyOf, roleIn, setIn, Has}
+use Rattle.store.proofs.Chains.{below-or-not}
 use Rattle.store.proofs.Keys.{role-of-key, set-of-key}
 use Rattle.store.proofs.Stores.{has-none}
 use Rattle.rules.specs.declared.Use.{Use}
 use Rattle.rules.specs.Uses.{UsedBy, Fitting}
 use Rattle.heads.specs.Gaining.{Gains}
-use Rattle.heads.proofs.Gaining.{over-more, below-or-not}
+use Rattle.heads.proofs.Gaining.{over-more}
 use Rattle.closure.specs.Closure.{Found, Policy, Given, Closed}
 use Rattle.loading.specs.Loading.{Spans, During, States, StatedBy, FactBy, UsesLoaded, statementsIn, bySpan, Loaded}
 use Rattle.loading.proofs.Usables.{decoded-proper}

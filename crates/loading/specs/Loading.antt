@@ -10,7 +10,7 @@ use Rattle.meaning.specs.Lists.{if}
 use Rattle.meaning.specs.Credentials.{Body, set, role, link, _∩_, _⊙_, _⊗_, Statement, Period, Credential, validAt}
 use Rattle.meaning.specs.Table.{bit, ends, spanCount}
 use Rattle.policy.specs.Policy.{credentialOf}
-use Rattle.ends.specs.Ends.{Rising}
+use Rattle.survey.specs.Surveying.{Rising}
 use Rattle.store.specs.Entries.{keyOf}
 use Rattle.rules.specs.declared.Use.{Use}
 use Rattle.rules.specs.Uses.{UsedBy, UsedAs, Uses, Listed, Fitting, Formed, HeadOf, sourceOf, sourceIn, headsIn}

@@ -17,7 +17,7 @@ use Rattle.heads.specs.Gaining.{Origin}
 use Rattle.loading.specs.Loading.{During, Before, StatedIn, UsedIn, Sourced}
 
 -- a statement within the format's numbers
-pub record Stated (s : Statement) : Type 0 where
+pub record InFormat (s : Statement) : Type 0 where
   pub kind : s .kind ≤ 5
   pub head : s .head < 1024
   pub first : (s .kind ≡ 0 → ⊥) → s .first < 1024

@@ -6,7 +6,7 @@ ghost use Rattle.meaning.specs.Table.{digit};
 ghost use Rattle.policy.specs.Policy.{credentialOf, statementIn, Decoded, bodyOf};
 ghost use Rattle.heads.specs.Gaining.{Kept, Gains};
 ghost use Rattle.loading.specs.Loading.{Masked, Spans, NoUses, UsesLoaded, StatedIn, StatedBy, FactBy};
-ghost use Rattle.loading.specs.Steps.{Stated, firstUse, secondUse, Room, UsesAdded, BodyUses, UseOf, FactAt};
+ghost use Rattle.loading.specs.Steps.{InFormat, firstUse, secondUse, Room, UsesAdded, BodyUses, UseOf, FactAt};
 use policy::Statement;
 use rules::Use;
 
@@ -80,7 +80,7 @@ fn load_use(
     count: usize,
     i: usize,
 )
-    requires { ⌜ Room 2 (now codes) (now valid) (now lists) ⌝ ∗ ⌜ Spans (now ends) count ⌝ ∗ ⌜ (i < 256) × Stated (statementIn (now policy) i) ⌝ }
+    requires { ⌜ Room 2 (now codes) (now valid) (now lists) ⌝ ∗ ⌜ Spans (now ends) count ⌝ ∗ ⌜ (i < 256) × InFormat (statementIn (now policy) i) ⌝ }
     ensures { λ _. ⌜ UsesAdded 2 (UseOf (now (ends .entry)) count i (credentialOf (now (policy .entry)) i)) (now (codes .entry)) (now (valid .entry)) (now (lists .entry)) (now (codes .exit)) (now (valid .exit)) (now (lists .exit)) ⌝ }
 {
     let s = policy::statement_at(policy, i);
@@ -103,19 +103,19 @@ fn add_uses(
     v: u64,
     i: u16,
 )
-    requires { ⌜ Room 2 (now codes) (now valid) (now lists) ⌝ ∗ ⌜ Stated s ⌝ ∗ ⌜ (i < 256) × (s .kind ≡ 0 → ⊥) × (v ≡ 0 → ⊥) ⌝ }
+    requires { ⌜ Room 2 (now codes) (now valid) (now lists) ⌝ ∗ ⌜ InFormat s ⌝ ∗ ⌜ (i < 256) × (s .kind ≡ 0 → ⊥) × (v ≡ 0 → ⊥) ⌝ }
     ensures { λ _. ⌜ UsesAdded 2 (BodyUses (bodyOf s) (s .head) v i) (now (codes .entry)) (now (valid .entry)) (now (lists .entry)) (now (codes .exit)) (now (valid .exit)) (now (lists .exit)) ⌝ }
 {
-    rules::add_use(codes, valid, lists, first_of(s), v, i);
+    listing::add_use(codes, valid, lists, first_of(s), v, i);
     if s.kind == 1 {
         return;
     }
-    rules::add_use(codes, valid, lists, second_of(s), v, i + 256);
+    listing::add_use(codes, valid, lists, second_of(s), v, i + 256);
 }
 
 // The use by the first premise.
 fn first_of(s: Statement) -> Use
-    requires { ⌜ Stated s ⌝ ∗ ⌜ (s .kind ≡ 0 → ⊥) ⌝ }
+    requires { ⌜ InFormat s ⌝ ∗ ⌜ (s .kind ≡ 0 → ⊥) ⌝ }
     ensures { λ r. ⌜ r ≡ firstUse s ⌝ }
 {
     if s.kind == 1 {
@@ -136,7 +136,7 @@ fn first_of(s: Statement) -> Use
 
 // The use by the second premise.
 fn second_of(s: Statement) -> Use
-    requires { ⌜ Stated s ⌝ ∗ ⌜ (s .kind ≡ 0 → ⊥) × (s .kind ≡ 1 → ⊥) ⌝ }
+    requires { ⌜ InFormat s ⌝ ∗ ⌜ (s .kind ≡ 0 → ⊥) × (s .kind ≡ 1 → ⊥) ⌝ }
     ensures { λ r. ⌜ r ≡ secondUse s ⌝ }
 {
     if s.kind == 2 {
@@ -169,7 +169,7 @@ fn load_set(
     n: usize,
     i: usize,
 ) -> usize
-    requires { ⌜ Kept (now keys) (now spans) (now slots) (now links) (now notes) n ⌝ ∗ ⌜ (n ≤ limit) × (limit ≤ 1024) ⌝ ∗ ⌜ Spans (now ends) count ⌝ ∗ ⌜ (i < 256) × Stated (statementIn (now policy) i) ⌝ }
+    requires { ⌜ Kept (now keys) (now spans) (now slots) (now links) (now notes) n ⌝ ∗ ⌜ (n ≤ limit) × (limit ≤ 1024) ⌝ ∗ ⌜ Spans (now ends) count ⌝ ∗ ⌜ (i < 256) × InFormat (statementIn (now policy) i) ⌝ }
     ensures { λ r. ⌜ Gains limit (now (keys .entry)) (now (spans .entry)) (now (notes .entry)) n (StatedIn (now (ends .entry)) count (credentialOf (now (policy .entry)) i)) (FactAt (now (ends .entry)) count (credentialOf (now (policy .entry)) i) i) (now (keys .exit)) (now (spans .exit)) (now (slots .exit)) (now (links .exit)) (now (notes .exit)) r ⌝ }
 {
     let s = policy::statement_at(policy, i);
@@ -216,8 +216,8 @@ fn span_mask(ends: &[u32; 64], n: usize, from: u32, until: u32) -> u64
     requires { ⌜ Spans (now ends) n ⌝ }
     ensures { λ r. ⌜ Masked (now (ends .entry)) n (record { from = from; until = until }) r ⌝ }
 {
-    let p = ends::first_at(ends, n, from);
-    let q = ends::first_at(ends, n, until);
+    let p = survey::first_at(ends, n, from);
+    let q = survey::first_at(ends, n, until);
     spans_between(p, q)
 }
 

@@ -1,7 +1,8 @@
 -- The bit i of a number: under and, or, shift and doubling; the bits determine the number. And the sets of one, by counting bits.
 use mathlib.Core.Path.{_≡_, refl, sym, ap, ap₂, _∙_, subst, subst⁻¹}
+use mathlib.Core.Logic.{_⊎_, inl, inr}
 use Prim.Native.Nat.{ℕ, zero, suc, _+_, _*_, _/_, _%_, _^_, _<_, _≤_, zero-le, suc-le-suc, min, max}
-use native.Mathlib.Nat.{mod-lt, div-one, div-eq-of-lt, zero-div, zero-mod, pow-suc, lt-of-not-le, le-of-suc-le-suc, not-suc-le-zero}
+use native.Mathlib.Nat.{mod-lt, div-one, div-eq-of-lt, zero-div, zero-mod, pow-suc, lt-of-not-le, le-of-suc-le-suc, not-suc-le-zero, eq-or-lt-of-le}
 use native.Mathlib.Omega.{arith}
 use lib.Arith.{bin-ind, digits-div, digits-mod}
 use lib.Bits.{bitAnd, bitOr, and-step, or-step, and-shr, or-shr, and-mask}
@@ -38,6 +39,20 @@ unfolding bit
 bit-or a b i =
     ap (λ (x : ℕ). x % 2) (or-shr a b i ∙ or-step (a / 2 ^ i) (b / 2 ^ i))
     ∙ digits-mod (bitOr (a / 2 ^ i / 2) (b / 2 ^ i / 2)) (omega arith)
+
+-- a bit of a union is a bit of one of the two
+pub union-left : (a b i : ℕ) → bit a i ≡ 1 → bit (bitOr a b) i ≡ 1
+union-left a b i e = omega (arith, bit-or a b i, bit-below-two b i)
+
+pub union-right : (a b i : ℕ) → bit b i ≡ 1 → bit (bitOr a b) i ≡ 1
+union-right a b i e = omega (arith, bit-or a b i, bit-below-two a i)
+
+pub union-cases : (a b i : ℕ) → bit (bitOr a b) i ≡ 1 → (bit a i ≡ 1) ⊎ (bit b i ≡ 1)
+union-cases a b i e = go (eq-or-lt-of-le (le-of-suc-le-suc (bit-below-two a i)))
+  where
+    go : (bit a i ≡ 1) ⊎ (bit a i < 1) → (bit a i ≡ 1) ⊎ (bit b i ≡ 1)
+    go (inl f) = inl f
+    go (inr l) = inr (omega (arith, bit-or a b i))
 
 -- `n >> i & 1`
 pub shift-bit : (n i : ℕ) → bitAnd (n / 2 ^ i) 1 ≡ bit n i

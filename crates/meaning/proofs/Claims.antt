@@ -11,7 +11,7 @@ use Rattle.meaning.specs.Credentials.{Body, set, covers, Credential, val
 use Rattle.meaning.specs.Rules.{CW, Derivable}
 use Rattle.meaning.specs.Sequence.{S, Least}
 use Rattle.meaning.specs.Periods.{Validity, contains, CWP, Maximal}
-use Rattle.meaning.specs.Members.{member, members, leastLevel, In}
+use Rattle.meaning.specs.Members.{member, members, leastLevel, In, Before}
 use Rattle.meaning.specs.Proofs.{Step, Proof, Provable}
 use Rattle.meaning.specs.Table.{ends, inSpan, table, inSpans, written, intervals, RowsAscending, Apart, bit, Row, spanCount}
 use Rattle.meaning.specs.Cases.{Claim, Holds, cases}
@@ -22,6 +22,7 @@ use Rattle.meaning.proofs.Proofs as Proofs
 use Rattle.meaning.proofs.Least as LeastLevels
 use Rattle.meaning.proofs.Spans as Spans
 use Rattle.meaning.proofs.Rows as Rows
+use Rattle.meaning.proofs.Written as Written
 use Rattle.meaning.proofs.Intervals as Intervals
 use Rattle.meaning.proofs.Validities as Validities
 use Rattle.meaning.proofs.Maximal as Maxima
@@ -83,6 +84,10 @@ module _ (cs : List Credential) where
   pub members-exact : FitsAll cs → (m : ℕ) {Ar X : ℕ} → In (members cs m) Ar X ↔ Derivable cs m Ar X
   members-exact w m = Rows.members-derivable cs w m
 
+  -- It lists each once, ascending by role, then by set, so that its length is the number of memberships.
+  pub members-once : FitsAll cs → (m : ℕ) → Ascending Before (members cs m)
+  members-once w m = Rows.members-ascending cs w m
+
   -- The ends are the first and last bounds of the periods that have minutes, ascending, each once.
   pub ends-exact : (x : ℕ) → Mem x (ends cs) ↔ ((c : Credential) × Mem c cs × (c .period .from < c .period .until) × ((x ≡ c .period .from) ⊎ (x ≡ c .period .until)))
   ends-exact = Spans.ends-exact cs
@@ -107,6 +112,18 @@ module _ (cs : List Credential) where
 
   pub table-ascends : RowsAscending (table cs)
   table-ascends = Rows.table-ascending cs
+
+  -- A role and a set have one row at most.
+  pub one-row : {x y : Row} → Mem x (table cs) → Mem y (table cs) → x .role ≡ y .role → x .set ≡ y .set → x ≡ y
+  one-row = Written.one-row cs
+
+  -- The written validity of a row's role and set holds a minute exactly when that one row has a span with it.
+  pub written-row : {x : Row} → Mem x (table cs) → (m : ℕ) → T (written (ends cs) (table cs) (x .role) (x .set) m) ↔ T (inSpans (ends cs) (x .spans) m)
+  written-row = Written.row-written cs
+
+  -- Without a row of the role and the set, it holds no minute.
+  pub written-some-row : (m Ar X : ℕ) → T (written (ends cs) (table cs) Ar X m) ↔ ((x : Row) × Mem x (table cs) × (x .role ≡ Ar) × (x .set ≡ X) × T (inSpans (ends cs) (x .spans) m))
+  written-some-row = Written.written-row (ends cs) (table cs)
 
   -- The intervals of a span number hold exactly the minutes of its spans; they ascend and never touch.
   pub interval-minutes : (spans m : ℕ) → T (any (λ v. covers v m) (intervals (ends cs) spans)) ↔ T (inSpans (ends cs) spans m)

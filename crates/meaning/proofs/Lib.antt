@@ -12,6 +12,7 @@ pub mod Validities
 pub mod Bits
 pub mod Spans
 pub mod Rows
+pub mod Written
 pub mod Intervals
 pub mod Maximal
 pub mod Cases

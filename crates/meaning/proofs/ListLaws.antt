@@ -1,4 +1,4 @@
--- What is in the lists that `only`, `each`, `map` and `below` build.
+-- What is in the lists that `only`, `each`, `map`, `below` and `replicate` build.
 use mathlib.Core.Path.{_≡_, refl, sym, ap, ap₂, _∙_, subst}
 use mathlib.Core.Logic.{_⊎_, inl, inr}
 use mathlib.Core.Bool.{Bool, true, false}
@@ -7,7 +7,7 @@ use Prim.Native.Nat.{ℕ, zero, suc, _+_, _<_, _≤_, zero-le, suc-le-suc}
 use native.Mathlib.Nat.{le-of-suc-le-suc, not-suc-le-zero, eq-or-lt-of-le}
 use native.Mathlib.Omega.{arith}
 use lib.Dec.{T}
-use lib.ListN.{length, getD}
+use lib.ListN.{length, getD, replicate}
 use Rattle.meaning.specs.Lists.{only, each, upFrom, below}
 
 module _ {A B : Type 0} where
@@ -80,3 +80,9 @@ below-in n k h = up-in n 0 k zero-le (omega arith)
 
 pub below-out : (n : ℕ) {k : ℕ} → Mem k (below n) → k < n
 below-out n m = let r = up-out n 0 m in omega arith
+
+-- a list of zeros has 0 at every place
+pub zeros-at : (n i : ℕ) → _≡_ {A = ℕ} (getD (replicate n 0) i 0) 0
+zeros-at zero i = refl
+zeros-at (suc n) zero = refl
+zeros-at (suc n) (suc i) = zeros-at n i

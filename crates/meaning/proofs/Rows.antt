@@ -96,15 +96,15 @@ map-back f (x ∷ R) h = ap₂ {C = List Row} (λ a b. a ∷ b) (h x (head refl)
 
 -- ---- the rows of lists of memberships, one list for each span
 
-digit-below-two : (b : Bool) → digit b < 2
+pub digit-below-two : (b : Bool) → digit b < 2
 digit-below-two true = suc-le-suc (suc-le-suc zero-le)
 digit-below-two false = suc-le-suc zero-le
 
-digit-out : (b : Bool) → digit b ≡ 1 → T b
+pub digit-out : (b : Bool) → digit b ≡ 1 → T b
 digit-out true e = tt
 digit-out false e = absurd (omega arith)
 
-digit-in : (b : Bool) → T b → digit b ≡ 1
+pub digit-in : (b : Bool) → T b → digit b ≡ 1
 digit-in true t = refl
 digit-in false t = absurd t
 

@@ -4,7 +4,7 @@ use completing::Completed;
 
 fn print_interval(role: u32, set: u32, from: u32, to: u32) {
     let mut line = [0u8; 128];
-    let n = text::interval_line(&mut line, role, set, from, to);
+    let n = lines::interval_line(&mut line, role, set, from, to);
     console::write_line(&line, n);
 }
 

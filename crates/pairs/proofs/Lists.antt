@@ -9,9 +9,7 @@ use lib.ListN.{getD}
 use Rattle.store.specs.Entries.{roleIn, Stored, Grown, latest}
 use Rattle.store.proofs.Chains.{latest-same, latest-none}
 use Rattle.rules.specs.Uses.{Listed, bodyOfHead, bodiesIn, headsIn}
-use Rattle.heads.specs.Gaining.{Spanned}
 use Rattle.heads.specs.Walks.{On}
-use Rattle.heads.specs.Heads.{Headed}
 use Rattle.heads.proofs.Walks.{on-latest, passed}
 use Rattle.heads.proofs.Heads.{heads-start, heads-next}
 use Rattle.waiting.specs.Pairs.{roleOf}
@@ -38,9 +36,6 @@ roles-next {keys} {keys′ = keys′} {n = n} st g role start c d l nz on e =
 module _ {codes valid lists : List ℕ} (l : Listed codes valid lists) (body c : ℕ) (low : body < bodiesIn lists) (first : c ≡ getD lists (2080 + body) 0) where
   start : c ≡ latest (bodyOfHead codes) body (headsIn lists)
   start = heads-start l body c (omega (arith, l .few)) first
-
-  pub no-head : {Sets : Spanned} → c ≡ 0 → (k s : ℕ) → Headed codes valid lists body Sets k s → ⊥
-  no-head z k s w = latest-none (bodyOfHead codes) body (headsIn lists) (w .head) (omega (arith, start)) (w .low) (w .of)
 
   module _ (nz : c ≡ 0 → ⊥) where
     on : On (bodyOfHead codes) body (headsIn lists) c

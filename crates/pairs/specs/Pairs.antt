@@ -6,7 +6,7 @@ use lib.Bits.{bitAnd}
 use lib.ListN.{getD}
 use Rattle.meaning.specs.Table.{bit}
 use Rattle.store.specs.Entries.{keyOf, setIn, Has}
-use Rattle.rules.specs.Uses.{bodyOfHead, headsIn}
+use Rattle.rules.specs.Uses.{Listed, bodyOfHead, headsIn}
 use Rattle.heads.specs.Gaining.{Spanned, Gains}
 use Rattle.heads.specs.Walks.{From}
 use Rattle.heads.specs.Heads.{Headed, FromHeads}
@@ -28,6 +28,10 @@ pub record OnlyHead (codes lists : List ℕ) (body head : ℕ) : Type 0 where
   pub low : head < headsIn lists
   pub of : bodyOfHead codes head ≡ body
   pub only : (i : ℕ) → i < headsIn lists → bodyOfHead codes i ≡ body → i ≡ head
+
+-- c is 0, or one more than the body's only head
+abbrev pub OnlyHeads : List ℕ → ℕ → ℕ → Type 0
+OnlyHeads lists body c = (codes valid : List ℕ) → Listed codes valid lists → (c ≡ 0 → ⊥) → OnlyHead codes lists body (c - 1)
 
 -- the entries have all that a pair gives a head with the role and the spans v
 abbrev pub AllThere : List ℕ → List ℕ → ℕ → ℕ → Pair → ℕ → Type 0

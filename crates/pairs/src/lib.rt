@@ -1,13 +1,15 @@
 // What an entry gives with each entry of a role, for the heads of a body. For several heads, sets wait before the heads get them, so that each gets an equal set once.
 ghost use mathlib.Core.Path.{_≡_};
 ghost use mathlib.Core.Bool.{true};
-ghost use Prim.Native.Nat.{ℕ, _+_, _<_, _≤_};
+ghost use mathlib.Core.List.{List};
+ghost use Prim.Native.Nat.{ℕ, _<_, _≤_};
 ghost use lib.ListN.{length, getD};
 ghost use Rattle.store.specs.Entries.{roleIn, Searchable};
+ghost use Rattle.rules.specs.Uses.{Listed, bodiesIn};
 ghost use Rattle.heads.specs.Gaining.{Gains};
 ghost use Rattle.heads.specs.Heads.{Ready, Headed, FromHeads};
 ghost use Rattle.waiting.specs.Waiting.{Waits, Partnered};
-ghost use Rattle.pairs.specs.Pairs.{OnlyHead, AllThere, PlanGains};
+ghost use Rattle.pairs.specs.Pairs.{OnlyHead, OnlyHeads, AllThere, PlanGains};
 use heads::Gift;
 use waiting::Offer;
 use waiting::Pair;
@@ -38,11 +40,8 @@ pub fn with_each(
     requires { ⌜ Ready (now keys) (now spans) (now slots) (now links) (now notes) n (p .limit) (now codes) (now valid) (now lists) (p .body) ⌝ ∗ ⌜ (p .start ≤ n) × (p .offer .set < 4294967296) × (p .own ≤ n) ⌝ }
     ensures { λ r. ⌜ PlanGains p (now (codes .entry)) (now (valid .entry)) (now (lists .entry)) (now (done .entry)) (now (keys .entry)) (now (spans .entry)) (now (notes .entry)) n (now (keys .exit)) (now (spans .exit)) (now (slots .exit)) (now (links .exit)) (now (notes .exit)) r ⌝ }
 {
-    let c = rules::first_head(lists, p.body);
-    if c == 0 {
-        return n;
-    }
-    if rules::next_head(lists, c) == 0 {
+    let c = only_head(lists, p.body);
+    if c != 0 {
         return with_head(
             keys,
             spans,
@@ -102,14 +101,7 @@ fn with_head(
     while at != 0 {
         let x = waiting::pair_at(keys, done, o, at - 1);
         if !has(keys, spans, slots, r, role, x, v) {
-            let g = Gift {
-                limit,
-                body: p.body,
-                set: x.set,
-                spans: x.spans,
-                own: p.own,
-                other: at as u16,
-            };
+            let g = gift_of(p, x);
             r = heads::add_head(
                 keys,
                 spans,
@@ -200,15 +192,13 @@ fn add_waiting(
     let mut r = n;
     let mut i = 0;
     while i < count {
-        let x = places[i];
-        let g = Gift {
-            limit,
-            body: p.body,
-            set: store::set_of(x),
+        let y = places[i];
+        let x = Pair {
+            set: store::set_of(y),
             spans: places[64 + i],
-            own: p.own,
-            other: store::role_of(x) as u16,
+            other: store::role_of(y) as u64,
         };
+        let g = gift_of(p, x);
         r = heads::add_heads(keys, spans, slots, links, notes, codes, valid, lists, r, g);
         if limit < r {
             return r;
@@ -235,5 +225,35 @@ fn has(
     if m == 0 {
         return true;
     }
-    store::known(keys, spans, slots, n, store::key_of(role, x.set), m)
+    store::known(keys, spans, slots, store::key_of(role, x.set), m)
+}
+
+// What a pair gives the heads of a plan's body.
+fn gift_of(p: Plan, x: Pair) -> Gift
+    requires { ⌜ x .other ≤ 1024 ⌝ }
+    ensures { λ r. ⌜ r ≡ record { limit = p .limit; body = p .body; set = x .set; spans = x .spans; own = p .own; other = x .other } ⌝ }
+{
+    Gift {
+        limit: p.limit,
+        body: p.body,
+        set: x.set,
+        spans: x.spans,
+        own: p.own,
+        other: x.other as u16,
+    }
+}
+
+// One more than the only head of a body, or 0 where it has none or several; 0 is always right.
+fn only_head(lists: &[u16; 3106], body: usize) -> usize
+    requires { ⌜ ((codes valid : List ℕ) × Listed codes valid (now lists)) ⌝ ∗ ⌜ body < bodiesIn (now lists) ⌝ }
+    ensures { λ r. ⌜ OnlyHeads (now (lists .entry)) body r ⌝ }
+{
+    let c = rules::first_head(lists, body);
+    if c == 0 {
+        return 0;
+    }
+    if rules::next_head(lists, c) != 0 {
+        return 0;
+    }
+    c
 }

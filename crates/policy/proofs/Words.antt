@@ -14,7 +14,7 @@ use Rattle.file.specs.declared.Head.{Head}
 use Rattle.file.specs.Format.{N, field, withBody, bodyOf, credentialIn, credentials}
 use Rattle.file.specs.Values.{Headed}
 use Rattle.file.proofs.Uses.{by-kind}
-use Rattle.policy.specs.Policy.{bodyBy, statedKind, statedHead, statedSet, Fits, PolicyOf, credentialOf, credentialsOf}
+use Rattle.policy.specs.Policy.{bodyBy, statedKind, statedHead, statedSet, WordFits, PolicyOf, credentialOf, credentialsOf}
 use Rattle.policy.specs.Steps.{bodyNumber, statementNumber, wordIn, periodNumber, Worded}
 use Rattle.policy.proofs.Bytes.{Small, small}
 
@@ -79,7 +79,7 @@ module _ (f : List ℕ) (i : ℕ) (s : Small f i) where
   joined-in : (field f i 0 ≡ 0 → ⊥) → statedSet (wordIn f i) ≡ (field f i 3 · field f i 4) * 1024 + (field f i 5 · field f i 6)
   joined-in h = set-in ∙ simp (ne-eqb _ _ h)
 
-  word-fits : Fits (wordIn f i)
+  word-fits : WordFits (wordIn f i)
   word-fits =
       let k = kind-in in
       record {
@@ -89,7 +89,7 @@ module _ (f : List ℕ) (i : ℕ) (s : Small f i) where
       }
 
 module _ (f p : List ℕ) (i : ℕ) (s : Small f i) (w : Worded f p i) where
-  worded-fits : Fits (getD p (2 * i) 0)
+  worded-fits : WordFits (getD p (2 * i) 0)
   worded-fits = rw (w .statement) (word-fits f i s)
 
   worded-means : credentialOf p i ≡ credentialIn f i

@@ -47,7 +47,7 @@ unfoldable pub credentialsOf : List ℕ → ℕ → List Credential
 credentialsOf p n = map (credentialOf p) (below n)
 
 -- a statement within the format's numbers
-pub record Fits (w : ℕ) : Type 0 where
+pub record WordFits (w : ℕ) : Type 0 where
   pub kind : statedKind w ≤ 5
   pub first : (statedKind w ≡ 0 → ⊥) → statedFirst w < 1024
   pub name : statedKind w ≡ 2 → statedSecond w < 32
@@ -55,7 +55,7 @@ pub record Fits (w : ℕ) : Type 0 where
 -- n credentials, their statements within the format's numbers
 pub record Decoded (p : List ℕ) (n : ℕ) : Type 0 where
   pub few : n ≤ 256
-  pub fits : (i : ℕ) → i < n → Fits (getD p (2 * i) 0)
+  pub fits : (i : ℕ) → i < n → WordFits (getD p (2 * i) 0)
 
 -- the n credentials are those of a file
 pub record PolicyOf (f p : List ℕ) (n : ℕ) : Type 0 where

@@ -3,9 +3,8 @@ ghost use mathlib.Core.Path.{_≡_};
 ghost use Prim.Native.Nat.{_+_, _<_, _≤_};
 ghost use lib.ListN.{length};
 ghost use Rattle.meaning.specs.Credentials.{_·_, covers};
-ghost use Rattle.file.specs.Format.{N, byte};
-ghost use Rattle.file.specs.Reading.{credentialRows};
-ghost use Rattle.file.specs.Values.{Headed, firstNumber};
+ghost use Rattle.file.specs.Format.{N, byte, statementAt, field};
+ghost use Rattle.file.specs.Values.{Headed};
 ghost use Rattle.policy.specs.Policy.{credentialOf, statementIn, periodIn, Decodes};
 ghost use Rattle.policy.specs.Steps.{bodyAt, wordIn, periodNumber, stored, OneDecoded, AllDecoded};
 use file::Entity;
@@ -66,7 +65,7 @@ pub fn statement_at(policy: &[u64; 512], i: usize) -> Statement
     requires { ⌜ i < 256 ⌝ }
     ensures { λ r. ⌜ r ≡ statementIn (now (policy .entry)) i ⌝ }
 {
-    let w = whole(policy[2 * i]);
+    let w = widths::whole(policy[2 * i]);
     let body = w % 4294967296;
     Statement {
         kind: (w / 4398046511104) as u32,
@@ -82,7 +81,7 @@ pub fn period_at(policy: &[u64; 512], i: usize) -> Period
     requires { ⌜ i < 256 ⌝ }
     ensures { λ r. ⌜ r ≡ periodIn (now (policy .entry)) i ⌝ }
 {
-    let v = whole(policy[2 * i + 1]);
+    let v = widths::whole(policy[2 * i + 1]);
     Period {
         from: (v / 4294967296) as u32,
         until: (v % 4294967296) as u32,
@@ -111,32 +110,12 @@ fn refused(number: u32, place: u32) -> Sizes
     }
 }
 
-// The number itself; a number of the list is below 2 ^ 64.
-fn whole(x: u64) -> u64
-    ensures { λ r. ⌜ (r ≡ x) × (x < 18446744073709551616) ⌝ }
-{
-    x
-}
-
-fn wide(x: u8) -> u64
-    ensures { λ r. ⌜ (r ≡ x) × (x < 256) ⌝ }
-{
-    x as u64
-}
-
-// A role as a number.
-fn role_number(issuer: Entity, name: RoleName) -> u64
-    ensures { λ r. ⌜ (r ≡ issuer .0 · name .0) × (r < 8448) ⌝ }
-{
-    wide(issuer.0) * 32 + wide(name.0)
-}
-
 // The role of two bytes as a number.
 fn role_at(file: &[u8], p: usize) -> u64
     requires { ⌜ p + 2 ≤ length (now file) ⌝ }
     ensures { λ r. ⌜ (r ≡ byte (now (file .entry)) p · byte (now (file .entry)) (p + 1)) × (r < 8448) ⌝ }
 {
-    role_number(Entity(file[p]), RoleName(file[p + 1]))
+    file::role_number(Entity(file[p]), RoleName(file[p + 1])) as u64
 }
 
 // The body of b, s, c, t as a number. Bytes that the kind does not use are zero.
@@ -145,18 +124,18 @@ fn body_at(file: &[u8], kind: u64, p: usize) -> u64
     ensures { λ r. ⌜ (r ≡ bodyAt (now (file .entry)) kind p) × (r < 4294967296) ⌝ }
 {
     if kind == 0 {
-        return 1u64 << wide(file[p]);
+        return 1u64 << widths::wide8(file[p]);
     }
     role_at(file, p) * 1024 + role_at(file, p + 2)
 }
 
 // The statement of credential i as a number.
-fn word_at(file: &[u8], h: Head, i: usize) -> u64
-    requires { ⌜ (Headed (now file) h) × (i < N (now file)) × (firstNumber (credentialRows (now file) i) ≡ 0) ⌝ }
+fn word_at(file: &[u8], i: usize) -> u64
+    requires { ⌜ (statementAt i + 8 ≤ length (now file)) × (field (now file) i 3 < 32) ⌝ }
     ensures { λ r. ⌜ r ≡ wordIn (now (file .entry)) i ⌝ }
 {
     let at = 6 + 8 * i;
-    let kind = wide(file[at]);
+    let kind = widths::wide8(file[at]) as u64;
     let head = role_at(file, at + 1);
     let body = body_at(file, kind, at + 3);
     kind * 4398046511104 + head * 4294967296 + body
@@ -187,7 +166,7 @@ fn decode_one(policy: &mut [u64; 512], file: &[u8], h: Head, i: usize) -> u32
     if number != 0 {
         return number;
     }
-    let statement = word_at(file, h, i);
+    let statement = word_at(file, i);
     let period = period_word(file::read_period(file, h, i));
     put(policy, i, statement, period);
     0

@@ -85,13 +85,13 @@ module _ {keys slots links : List ℕ} {n : ℕ} (st : Stored keys slots links n
 
 -- ---- where a walk starts
 
-pub walking-same : (links : List ℕ) (t : Turn) {own own′ role role′ : ℕ} (c : ℕ) → own ≡ own′ → role ≡ role′ → Walking links t own role c → Walking links t own′ role′ c
-walking-same links t {own} {role′ = role′} c e f w =
-    subst (λ (x : ℕ). Walking links t x role′ c) e (subst (λ (r : ℕ). Walking links t own r c) f w)
+pub walking-same : (links : List ℕ) (t : Turn) {role role′ partner partner′ : ℕ} (c : ℕ) → role ≡ role′ → partner ≡ partner′ → Walking links t role partner c → Walking links t role′ partner′ c
+walking-same links t {role} {partner′ = partner′} c e f w =
+    subst (λ (x : ℕ). Walking links t x partner′ c) e (subst (λ (r : ℕ). Walking links t role r c) f w)
 
 -- ---- a body
 
-module _ {keys slots links done : List ℕ} {n : ℕ} (t : Turn) (code d : ℕ) (st : Stored keys slots links n) (fi : Firing keys done n t) where
+module _ {keys slots links done : List ℕ} {n : ℕ} (t : Turn) (code d : ℕ) (st : Stored keys slots links n) (fi : Firing done n t) where
   abbrev a : ℕ
   a = getD keys (t .e) 0
 

@@ -17,7 +17,7 @@ use Rattle.premises.specs.declared.Move.{Move}
 use Rattle.premises.specs.Combining.{InFamily, ByCode, Offers}
 
 -- entry e is done in some span, and where that is said, nothing after it is
-pub record Firing (keys done : List ℕ) (n : ℕ) (t : Turn) : Type 0 where
+pub record Firing (done : List ℕ) (n : ℕ) (t : Turn) : Type 0 where
   pub low : t .e < n
   pub some : getD done (t .e) 0 ≡ 0 → ⊥
   pub last : t .last ≡ true → (i : ℕ) → t .e < i → getD done i 0 ≡ 0
@@ -38,9 +38,9 @@ pub record Single (keys done : List ℕ) (n key x d : ℕ) (m : Move) : Type 0 w
   pub low : m .other ≤ n
   pub start : m .start ≡ 0
 
--- a walk starts at entry e, which has the role, where nothing after it is done; else at the latest entry of the role
+-- a walk starts at entry e, whose role is the partner's, where nothing after it is done; else at the latest entry of the partner's role
 abbrev pub Walking : List ℕ → Turn → ℕ → ℕ → ℕ → Type 0
-Walking links t own role r = ((t .last ≡ true) × (own ≡ role) × (r ≡ suc (t .e))) ⊎ (r ≡ getD links (1024 + role) 0)
+Walking links t role partner r = ((t .last ≡ true) × (role ≡ partner) × (r ≡ suc (t .e))) ⊎ (r ≡ getD links (1024 + partner) 0)
 
 -- the sets that a move gives, and a set with the word of its partner
 abbrev pub MoveSets : Bool → List ℕ → List ℕ → Move → Spanned

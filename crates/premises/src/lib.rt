@@ -33,34 +33,34 @@ pub fn plan(
     t: Turn,
     d: u64,
 ) -> Move
-    requires { ⌜ Stored (now keys) (now slots) (now links) n ⌝ ∗ ⌜ Firing (now keys) (now done) n t ⌝ ∗ ⌜ Codable (now keys) (t .e) code ⌝ }
+    requires { ⌜ Stored (now keys) (now slots) (now links) n ⌝ ∗ ⌜ Firing (now done) n t ⌝ ∗ ⌜ Codable (now keys) (t .e) code ⌝ }
     ensures { λ r. ⌜ Planned (now (keys .entry)) (now (done .entry)) n (t .e) code d r ⌝ }
 {
     let e = t.e;
     let x = store::set_of(keys[e]);
-    let own = store::role_of(keys[e]);
+    let role = store::role_of(keys[e]);
     let kind = rules::kind_of(code);
-    let other = rules::other_of(code);
+    let partner = rules::other_of(code);
     if kind == 1 {
         return single(x, d, 0);
     }
     if kind == 3 {
-        return with_one(keys, slots, links, done, n, store::key_of(other, x), x, d);
+        return with_one(keys, slots, links, done, n, store::key_of(partner, x), x, d);
     }
     if kind != 2 {
-        let start = start_at(links, t, own, other);
+        let start = start_at(links, t, role, partner);
         return walking(kind, x, d, start);
     }
     if 1024 <= rules::family_of(code) {
-        let key = store::key_of(other, 1u64 << (own / 32));
+        let key = store::key_of(partner, 1u64 << (role / 32));
         return with_one(keys, slots, links, done, n, key, x, d);
     }
     let set = x as u32;
     if u32::count_ones(set) != 1 {
         return single(x, 0, 0);
     }
-    let role = u32::trailing_zeros(set) as usize * 32 + other;
-    let start = start_at(links, t, own, role);
+    let linked = u32::trailing_zeros(set) as usize * 32 + partner;
+    let start = start_at(links, t, role, linked);
     walking(2, x, d, start)
 }
 
@@ -82,22 +82,22 @@ fn with_one(
     if links[1024 + role] == 0 {
         return single(x, 0, 0);
     }
-    let c = store::entry_of(keys, slots, n, key);
+    let c = store::entry_of(keys, slots, key);
     if c == 0 {
         return single(x, 0, 0);
     }
     single(x, d & done[c - 1], c as u16)
 }
 
-// One more than the latest entry of a role that can be done, or 0.
-fn start_at(links: &[u16; 2048], t: Turn, own: usize, role: usize) -> usize
-    requires { ⌜ (role < 1024) × (t .e < 1024) ⌝ }
-    ensures { λ r. ⌜ Walking (now (links .entry)) t own role r ⌝ }
+// One more than the latest entry of the partner's role that can be done, or 0; `role` is that of entry e.
+fn start_at(links: &[u16; 2048], t: Turn, role: usize, partner: usize) -> usize
+    requires { ⌜ (partner < 1024) × (t .e < 1024) ⌝ }
+    ensures { λ r. ⌜ Walking (now (links .entry)) t role partner r ⌝ }
 {
-    if t.last & (own == role) {
+    if t.last & (role == partner) {
         return t.e + 1;
     }
-    store::wide(links[1024 + role])
+    store::wide(links[1024 + partner])
 }
 
 fn single(set: u64, spans: u64, other: u16) -> Move

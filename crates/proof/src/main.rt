@@ -4,8 +4,10 @@ ghost use mathlib.Core.Path.{_≡_};
 ghost use mathlib.Core.Bool.{cond, _&&_};
 ghost use Prim.Native.Nat.{_+_, _*_};
 ghost use lib.Dec.{ltb};
+use file::Entity;
 use file::Found;
-use notation::Step;
+use file::RoleName;
+use proof_lines::Step;
 use querying::Answer;
 use text::Parsed;
 
@@ -16,10 +18,10 @@ enum Request {
 
 // Every step of a proof names a credential of the file.
 fn print_step(file: &[u8], number: u32, s: Step) {
-    match file::read_credential(file, s.credential as usize) {
+    match reader::read_credential(file, s.credential as usize) {
         Found::Credential(c) => {
             let mut line = [0u8; 128];
-            let n = notation::step_line(&mut line, number, s, c);
+            let n = proof_lines::step_line(&mut line, number, s, c);
             console::write_line(&line, n);
         }
         Found::End => {}
@@ -78,7 +80,7 @@ fn print_proof(file: &[u8], role: u32, set: u32, minute: u32) {
 }
 
 // An issuer or a name from 32 on is in no file: the largest number is then a role that every file refuses by 11.
-fn role_number(issuer: u32, name: u32) -> u32
+fn role_asked(issuer: u32, name: u32) -> u32
     ensures { λ r. ⌜ r ≡ cond (ltb issuer 32 && ltb name 32) (issuer * 32 + name) 4294967295 ⌝ }
 {
     if 32 <= issuer {
@@ -87,7 +89,7 @@ fn role_number(issuer: u32, name: u32) -> u32
     if 32 <= name {
         return 4294967295;
     }
-    issuer * 32 + name
+    file::role_number(Entity(issuer as u8), RoleName(name as u8))
 }
 
 // An argument that is missing or longer than the buffer is empty here, and so no number.
@@ -114,7 +116,7 @@ fn asked() -> Request {
         return Request::Unclear;
     };
     Request::Query {
-        role: role_number(issuer, name),
+        role: role_asked(issuer, name),
         set,
         minute,
     }

@@ -13,8 +13,8 @@ use Rattle.file.specs.Refusals.{Outcome, done, first, _when_, left}
 use Rattle.file.specs.Format.{credentials}
 use Rattle.file.specs.Reading.{between, reading}
 use Rattle.asking.specs.Asking.{Request, StepLists, stepLists, within, asking}
-use Rattle.derivation.specs.Derivation.{words}
-use Rattle.querying.specs.Querying.{Counts, counts, fullRow, noneRow, levelFor, replyWith, Ending, querying, Queried}
+use Rattle.derivation.specs.HandedOut.{words}
+use Rattle.querying.specs.Querying.{Counts, counts, minuteFullRow, noneRow, levelFor, replyWith, QueryEnding, querying, Queried}
 use Rattle.codec.specs.Bytes.{bytesOf, entries}
 use Rattle.codec.proofs.Entries.{length-entries}
 use Rattle.replies.specs.Interface.{word, notWhole, stepListsIn}
@@ -46,7 +46,7 @@ done-writes e w = subst⁻¹ T (sym w ∙ ap writes e) tt
 module _ (f : List ℕ) (q : Request) (b : StepLists) (e : fit b ≡ false) where
   reply-unfit : (ss : List Step) → queryReply f q b ss ≡ notWhole f (counts 0 0)
   unfolding queryReply replyWith
-  reply-unfit ss = steps-unfit b f q e (fullRow f q (length (entries 4 (b .credential))) ∷ noneRow f q ∷ []) (counts (length ss) (levelFor f q)) (counts 0 0)
+  reply-unfit ss = steps-unfit b f q e (minuteFullRow f q (length (entries 4 (b .credential))) ∷ noneRow f q ∷ []) (counts (length ss) (levelFor f q)) (counts 0 0)
 
   pub unfit-queried : {r : ℕ} → r ≡ word (λ n. n) (notWhole f 0) → QueriedBytes f q b r b
   unfolding queryBytes
@@ -102,11 +102,11 @@ module _ (f : List ℕ) (q : Request) (b t : StepLists) (n : ℕ) (z : StepSizes
 
     reply : replyWith f q t ss ≡ o
     unfolding querying
-    reply = sym (ap (λ (e : Ending). e .reply) (d .ends))
+    reply = sym (ap (λ (e : QueryEnding). e .reply) (d .ends))
 
     entries-left : u ≡ leftBy ss o n
     unfolding querying
-    entries-left = ap (λ (e : Ending). e .lists) (d .ends) ∙ ap₂ (leftBy ss) reply (long .credential)
+    entries-left = ap (λ (e : QueryEnding). e .lists) (d .ends) ∙ ap₂ (leftBy ss) reply (long .credential)
 
 -- in lists of 1,024 places, of which the first n are lent
 abbrev taken : ℕ → StepLists → StepLists

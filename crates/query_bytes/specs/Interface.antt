@@ -8,8 +8,8 @@ use Rattle.meaning.specs.Proofs.{Step}
 use Rattle.file.specs.Refusals.{Outcome, done, left}
 use Rattle.file.specs.Format.{credentials}
 use Rattle.asking.specs.Asking.{Request, StepLists, stepLists}
-use Rattle.derivation.specs.Derivation.{HandedOut, words}
-use Rattle.querying.specs.Querying.{Counts, counts, replyWith, Ending, ending}
+use Rattle.derivation.specs.HandedOut.{HandedOut, words}
+use Rattle.querying.specs.Querying.{Counts, counts, replyWith, QueryEnding, queryEnding}
 use Rattle.codec.specs.Bytes.{bytesOf}
 use Rattle.replies.specs.Interface.{word, notWhole, entryCount, wholeSteps, stepListsIn}
 
@@ -21,9 +21,9 @@ unfoldable pub queryReply : List ℕ → Request → StepLists → List Step →
 queryReply f q b ss = if (wholeSteps b) (replyWith f q (stepListsIn b) ss) (notWhole f (counts 0 0))
 
 -- the reply and the bytes as the call leaves them, where ss are the steps handed out
-unfoldable pub queryBytes : List ℕ → Request → StepLists → List Step → Ending
+unfoldable pub queryBytes : List ℕ → Request → StepLists → List Step → QueryEnding
 queryBytes f q b ss =
-    ending (queryReply f q b ss)
+    queryEnding (queryReply f q b ss)
     (stepLists
     (left (queryReply f q b ss) (b .credential) (bytesOf 4 (words (λ s. s .credential) (entryCount (b .credential)) ss)))
     (left (queryReply f q b ss) (b .first) (bytesOf 4 (words (λ s. s .first) (entryCount (b .credential)) ss)))

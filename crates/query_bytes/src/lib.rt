@@ -2,7 +2,7 @@
 ghost use mathlib.Core.Path.{_≡_};
 ghost use Rattle.meaning.specs.Lists.{if};
 ghost use Rattle.asking.specs.Asking.{request, stepLists};
-ghost use Rattle.querying.specs.Querying.{says};
+ghost use Rattle.querying.specs.Querying.{saysAnswer};
 ghost use Rattle.replies.specs.Interface.{word};
 ghost use Rattle.replies.specs.Lengths.{StepSizes};
 ghost use Rattle.replies.specs.Replies.{writes};
@@ -48,7 +48,7 @@ pub fn query(
 
 // How many of n entries querying wrote or cleared.
 fn changed(answer: Answer, n: usize) -> usize
-    ensures { λ r. ⌜ r ≡ if (writes (says answer)) n 0 ⌝ }
+    ensures { λ r. ⌜ r ≡ if (writes (saysAnswer answer)) n 0 ⌝ }
 {
     match answer {
         Answer::Proof { steps: _, level: _ } => n,
@@ -57,7 +57,7 @@ fn changed(answer: Answer, n: usize) -> usize
 }
 
 fn number_of(answer: Answer) -> u64
-    ensures { λ r. ⌜ r ≡ word stepsAndLevel (says answer) ⌝ }
+    ensures { λ r. ⌜ r ≡ word stepsAndLevel (saysAnswer answer) ⌝ }
 {
     match answer {
         Answer::Proof { steps, level } => steps as u64 + level as u64 * 65536,

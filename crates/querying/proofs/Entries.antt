@@ -22,7 +22,7 @@ use Rattle.store.proofs.Keys.{role-of-key, set-of-key}
 use Rattle.derivation.specs.Derivation.{stepOf, shownOf}
 use Rattle.store.specs.Notes.{levelOf}
 use Rattle.derivation.proofs.Positions.{shown-sound}
-use Rattle.writing.specs.Columns.{rowsOf}
+use Rattle.writing.specs.Rows.{rowsOf}
 use Rattle.writing.proofs.Gathering.{keys-ascending, rows-gathered, rows-length}
 use Rattle.searching.specs.Searching.{Searched}
 

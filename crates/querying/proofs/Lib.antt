@@ -1,3 +1,5 @@
 pub mod Entries
 pub mod Working
 pub mod Replies
+pub mod Refusals
+pub mod Claims

@@ -3,7 +3,7 @@ use mathlib.Core.Path.{_≡_, refl, sym, ap, _∙_, subst}
 use mathlib.Core.Logic.{_⊎_, inl, inr}
 use mathlib.Core.Bool.{Bool, true, false, not}
 use mathlib.Core.List.{List, [], _∷_}
-use Prim.Native.Nat.{ℕ, _≤_}
+use Prim.Native.Nat.{ℕ, _-_, _≤_}
 use native.Mathlib.Omega.{arith}
 use borrow.Author.Tests.{eq-eqb, ne-eqb}
 use lib.Dec.{ltb}
@@ -18,9 +18,10 @@ use Rattle.file.specs.Refusals.{Outcome, done, refused, first, left}
 use Rattle.file.specs.Format.{credentials}
 use Rattle.asking.specs.Asking.{Request, StepLists, stepLists, size, asking}
 use Rattle.asking.proofs.Asked.{asked-refused, asked-passed, asked-low}
-use Rattle.derivation.specs.Derivation.{HandedOut, words}
+use Rattle.derivation.specs.HandedOut.{HandedOut, words}
+use Rattle.answering.specs.Steps.{upTo}
 use Rattle.querying.specs.declared.Search.{Search}
-use Rattle.querying.specs.Querying.{Counts, counts, fullRow, noneRow, levelFor, replyWith, ending, querying, Queried}
+use Rattle.querying.specs.Querying.{Counts, counts, minuteFullRow, noneRow, levelFor, replyWith, queryEnding, querying, Queried}
 use Rattle.querying.specs.Working.{replyOf, Worked}
 
 -- a refusal other than 10 and 13 leaves a list as it was, and these leave zeros
@@ -30,6 +31,10 @@ left-same n p before written h k = simp (ne-eqb n 10 h, ne-eqb n 13 k)
 left-zeros : (n p : ℕ) (before written : List ℕ) → (n ≡ 10) ⊎ (n ≡ 13) → left {A = Counts} (refused n p) before written ≡ replicate (length before) 0
 left-zeros n p before written (inl e) = rw e refl
 left-zeros n p before written (inr e) = rw e refl
+
+-- a list that is cleared from place 0 on
+pub cleared : (l : List ℕ) {l′ : List ℕ} {n : ℕ} → l′ ≡ upTo 0 l → length l ≡ n → l′ ≡ replicate n 0
+cleared l e h = let z : length l - 0 ≡ length l = omega arith in e ∙ ap (λ (k : ℕ). replicate k 0) (z ∙ h)
 
 abbrev levelIn : Outcome Counts → ℕ
 levelIn (done c) = c .level
@@ -44,9 +49,9 @@ module _ (f : List ℕ) (q : Request) (t : StepLists) where
       stepLists (left o (t .credential) (words (λ s. s .credential) (size t) ss)) (left o (t .first) (words (λ s. s .first) (size t) ss))
       (left o (t .second) (words (λ s. s .second) (size t) ss)) (left o (t .sets) (words (λ s. s .set) (size t) ss))
 
-  by-reply : (o : Outcome Counts) (ss : List Step) → replyWith f q t ss ≡ o → ending o (leftBy o ss) ≡ querying f q t ss
+  by-reply : (o : Outcome Counts) (ss : List Step) → replyWith f q t ss ≡ o → queryEnding o (leftBy o ss) ≡ querying f q t ss
   unfolding querying
-  by-reply o ss e = sym (ap (λ (x : Outcome Counts). ending x (leftBy x ss)) e)
+  by-reply o ss e = sym (ap (λ (x : Outcome Counts). queryEnding x (leftBy x ss)) e)
 
   module _ (r : Refusal) (e : r ≡ firstRefusal (asking f q t)) where
     -- refused before the search
@@ -55,12 +60,12 @@ module _ (f : List ℕ) (q : Request) (t : StepLists) where
     request-refused h = record {
       steps = [];
       ends =
-          (λ i. ending (refused (r .number) (r .place)) (stepLists
+          (λ i. queryEnding (refused (r .number) (r .place)) (stepLists
           (sym (left-same (r .number) (r .place) (t .credential) (words (λ s. s .credential) (size t) []) no-10 no-13) i)
           (sym (left-same (r .number) (r .place) (t .first) (words (λ s. s .first) (size t) []) no-10 no-13) i)
           (sym (left-same (r .number) (r .place) (t .second) (words (λ s. s .second) (size t) []) no-10 no-13) i)
           (sym (left-same (r .number) (r .place) (t .sets) (words (λ s. s .set) (size t) []) no-10 no-13) i)))
-          ∙ by-reply (refused (r .number) (r .place)) [] (asked-refused f q t r e h (fullRow f q (size t) ∷ noneRow f q ∷ []) (counts 0 (levelFor f q)));
+          ∙ by-reply (refused (r .number) (r .place)) [] (asked-refused f q t r e h (minuteFullRow f q (size t) ∷ noneRow f q ∷ []) (counts 0 (levelFor f q)));
       handed = λ c d. absurd (no-refusal d);
     }
       where
@@ -78,8 +83,8 @@ module _ (f : List ℕ) (q : Request) (t : StepLists) where
       passed : replyWith f q t (w .steps) ≡ replyOf s
       unfolding replyWith
       passed =
-          asked-passed f q t r e none (fullRow f q (size t) ∷ noneRow f q ∷ []) (counts (length (w .steps)) (levelFor f q))
-          ∙ sym (w .reply ∙ ap (λ (n : ℕ). first (fullRow f q n ∷ noneRow f q ∷ []) (counts (length (w .steps)) (levelFor f q))) same)
+          asked-passed f q t r e none (minuteFullRow f q (size t) ∷ noneRow f q ∷ []) (counts (length (w .steps)) (levelFor f q))
+          ∙ sym (w .reply ∙ ap (λ (n : ℕ). first (minuteFullRow f q n ∷ noneRow f q ∷ []) (counts (length (w .steps)) (levelFor f q))) same)
 
       -- 10 or 13
       which : (s .number ≡ 0 → ⊥) → (s .number ≡ 10) ⊎ (s .number ≡ 13)
@@ -100,7 +105,7 @@ module _ (f : List ℕ) (q : Request) (t : StepLists) where
       search-refused h a b c d = record {
         steps = w .steps;
         ends =
-            (λ i. ending (refused (s .number) 0) (stepLists
+            (λ i. queryEnding (refused (s .number) 0) (stepLists
             ((a ∙ sym (left-zeros (s .number) 0 (t .credential) (words (λ s. s .credential) (size t) (w .steps)) (which h))) i)
             ((b ∙ sym (left-zeros (s .number) 0 (t .first) (words (λ s. s .first) (size t) (w .steps)) (which h))) i)
             ((c ∙ sym (left-zeros (s .number) 0 (t .second) (words (λ s. s .second) (size t) (w .steps)) (which h))) i)
@@ -114,7 +119,7 @@ module _ (f : List ℕ) (q : Request) (t : StepLists) where
       proof-given z = record {
         steps = w .steps;
         ends =
-            (λ i. ending (done (counts (s .steps) (s .level))) (stepLists
+            (λ i. queryEnding (done (counts (s .steps) (s .level))) (stepLists
             ((w .byCredential z ∙ ap (λ (n : ℕ). words (λ s. s .credential) n (w .steps)) same) i)
             ((w .byFirst z ∙ ap (λ (n : ℕ). words (λ s. s .first) n (w .steps)) same) i)
             ((w .bySecond z ∙ ap (λ (n : ℕ). words (λ s. s .second) n (w .steps)) same) i)

@@ -19,7 +19,8 @@ use Rattle.asking.proofs.Asked.{within-bits}
 use Rattle.store.specs.Entries.{keyOf, roleIn, setIn}
 use Rattle.store.specs.Notes.{word, levelOf}
 use Rattle.store.proofs.Keys.{role-of-key, set-of-key}
-use Rattle.derivation.specs.Derivation.{Citable, Derivation, HandedOut}
+use Rattle.derivation.specs.HandedOut.{HandedOut}
+use Rattle.derivation.specs.Derivation.{Citable, Derivation}
 use Rattle.searching.specs.Searching.{Searched}
 use Rattle.answering.specs.Answering.{Citing}
 use Rattle.querying.specs.declared.Search.{Search}
@@ -53,6 +54,10 @@ same-lengths t e = (
 
     ab : T (a && b)
     ab = and-left (a && b) c abc
+
+-- the first of the entries are derived too
+pub first-entries : {cs : List Credential} {m : ℕ} {keys notes : List ℕ} {n k : ℕ} → k ≤ n → Derivation cs m keys notes n → Derivation cs m keys notes k
+first-entries l d = record { derived = λ i h. d .derived i (omega arith); distinct = λ i j h o. d .distinct i j (omega arith) (omega arith) }
 
 -- derived entries cite entries before them
 pub citing : {cs : List Credential} {m : ℕ} {keys notes : List ℕ} {n : ℕ} → Derivation cs m keys notes n → Citing notes n
@@ -100,7 +105,7 @@ module _ (cs : List Credential) (fits : FitsAll cs) (q : Request) (limit : ℕ) 
     })
 
     -- a proof
-    module _ (x : ℕ) (at : (x < n) × (getD keys x 0 ≡ keyOf (q .role) (q .set))) {xs ys zs us : List ℕ} {r : Search} (h : HandsOut keys notes n x limit xs ys zs us r) where
+    module _ (x : ℕ) (at : (x < n) × (getD keys x 0 ≡ keyOf (q .role) (q .set))) {xs ys zs us : List ℕ} {r : Search} (h : HandsOut keys notes x limit xs ys zs us r) where
       abbrev least : ℕ
       least = leastLevel cs (q .minute) (member (q .role) (q .set))
 
@@ -124,7 +129,7 @@ module _ (cs : List Credential) (fits : FitsAll cs) (q : Request) (limit : ℕ) 
               subst (λ (j : ℕ). HandedOut cs (q .minute) (q .role) (q .set) j (a .steps)) level
                   (subst (λ (X : ℕ). HandedOut cs (q .minute) (q .role) X (levelOf notes x) (a .steps)) (ap setIn (at .1) ∙ set-of-key (q .role) (q .set) small)
                   (subst (λ (R : ℕ). HandedOut cs (q .minute) R (setIn (getD keys x 0)) (levelOf notes x) (a .steps)) (ap roleIn (at .1) ∙ role-of-key (q .role) (q .set) small)
-                  (a .handed cs (q .minute) (s .derivation l)))),
+                  (a .handed cs (q .minute) (first-entries (at .0) (s .derivation l))))),
               omega (arith, a .count, a .few, at .0),
             );
           }

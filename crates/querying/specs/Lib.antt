@@ -1,2 +1,3 @@
 pub mod Querying
+pub mod Conditions
 pub mod Working

@@ -7,10 +7,10 @@ use lib.Dec.{ltb}
 use lib.ListN.{length}
 use Rattle.meaning.specs.Members.{member, has, members, leastLevel}
 use Rattle.meaning.specs.Proofs.{Step}
-use Rattle.file.specs.Refusals.{Row, Outcome, done, refused, first, _when_, left}
+use Rattle.file.specs.Refusals.{RefusalRow, Outcome, done, refused, first, _when_, left}
 use Rattle.file.specs.Format.{credentials}
 use Rattle.asking.specs.Asking.{Request, StepLists, stepLists, size, asking}
-use Rattle.derivation.specs.Derivation.{HandedOut, words}
+use Rattle.derivation.specs.HandedOut.{HandedOut, words}
 use Rattle.querying.specs.declared.Answer.{Answer}
 use Rattle.querying.specs.declared.Answer.the-variants as A
 
@@ -23,11 +23,11 @@ abbrev pub counts : ℕ → ℕ → Counts
 counts steps level = record { steps = steps; level = level }
 
 -- 10: more than L memberships at that minute
-abbrev pub fullRow : List ℕ → Request → ℕ → Row
-fullRow f q L = 10 when (ltb L (length (members (credentials f) (q .minute))))
+abbrev pub minuteFullRow : List ℕ → Request → ℕ → RefusalRow
+minuteFullRow f q L = 10 when (ltb L (length (members (credentials f) (q .minute))))
 
 -- 13: no proof
-abbrev pub noneRow : List ℕ → Request → Row
+abbrev pub noneRow : List ℕ → Request → RefusalRow
 noneRow f q = 13 when (not (has (member (q .role) (q .set)) (members (credentials f) (q .minute))))
 
 -- the least level of any proof of the membership at the minute
@@ -36,20 +36,20 @@ levelFor f q = leastLevel (credentials f) (q .minute) (member (q .role) (q .set)
 
 -- the reply, where ss are the steps handed out
 unfoldable pub replyWith : List ℕ → Request → StepLists → List Step → Outcome Counts
-replyWith f q t ss = first (asking f q t ++ (fullRow f q (size t) ∷ noneRow f q ∷ [])) (counts (length ss) (levelFor f q))
+replyWith f q t ss = first (asking f q t ++ (minuteFullRow f q (size t) ∷ noneRow f q ∷ [])) (counts (length ss) (levelFor f q))
 
 -- how the call ends: its reply, and the lists as it leaves them
-pub record Ending : Type 0 where
+pub record QueryEnding : Type 0 where
   pub reply : Outcome Counts
   pub lists : StepLists
 
-abbrev pub ending : Outcome Counts → StepLists → Ending
-ending reply lists = record { reply = reply; lists = lists }
+abbrev pub queryEnding : Outcome Counts → StepLists → QueryEnding
+queryEnding reply lists = record { reply = reply; lists = lists }
 
 -- the words of the steps, zeros after the last
-unfoldable pub querying : List ℕ → Request → StepLists → List Step → Ending
+unfoldable pub querying : List ℕ → Request → StepLists → List Step → QueryEnding
 querying f q t ss =
-    ending (replyWith f q t ss)
+    queryEnding (replyWith f q t ss)
     (stepLists
     (left (replyWith f q t ss) (t .credential) (words (λ s. s .credential) (size t) ss))
     (left (replyWith f q t ss) (t .first) (words (λ s. s .first) (size t) ss))
@@ -59,10 +59,10 @@ querying f q t ss =
 -- What is true of a query for every input. The choice of the steps is the one result that document 01 leaves open.
 pub record Queried (f : List ℕ) (q : Request) (t : StepLists) (reply : Outcome Counts) (t′ : StepLists) : Type 0 where
   pub steps : List Step
-  pub ends : ending reply t′ ≡ querying f q t steps
+  pub ends : queryEnding reply t′ ≡ querying f q t steps
   pub handed : (c : Counts) → reply ≡ done c → HandedOut (credentials f) (q .minute) (q .role) (q .set) (c .level) steps × (length steps ≤ size t)
 
 -- document 01's number and values for each case of the answer
-abbrev pub says : Answer → Outcome Counts
-says (A.Proof steps level) = done (counts steps level)
-says (A.Refused n p) = refused n p
+abbrev pub saysAnswer : Answer → Outcome Counts
+saysAnswer (A.Proof steps level) = done (counts steps level)
+saysAnswer (A.Refused n p) = refused n p

@@ -12,7 +12,7 @@ use Rattle.meaning.specs.Proofs.{Step}
 use Rattle.file.specs.Refusals.{Outcome, done, refused, first, _when_}
 use Rattle.store.specs.Notes.{levelOf}
 use Rattle.asking.specs.Asking.{Request}
-use Rattle.derivation.specs.Derivation.{HandedOut, words}
+use Rattle.derivation.specs.HandedOut.{HandedOut, words}
 use Rattle.answering.specs.Answering.{Answered}
 use Rattle.querying.specs.Querying.{Counts, counts}
 use Rattle.querying.specs.declared.Search.{Search}
@@ -38,7 +38,7 @@ pub record Worked (cs : List Credential) (q : Request) (L : ℕ) (credential fir
   pub handed : r .number ≡ 0 → HandedOut cs (q .minute) (q .role) (q .set) (leastLevel cs (q .minute) (member (q .role) (q .set))) steps × (length steps ≤ L)
 
 -- the proof of entry x stands in the lists, with its step count and level
-pub record HandsOut (keys notes : List ℕ) (n x L : ℕ) (credential first′ second sets : List ℕ) (r : Search) : Type 0 where
+pub record HandsOut (keys notes : List ℕ) (x L : ℕ) (credential first′ second sets : List ℕ) (r : Search) : Type 0 where
   pub number : r .number ≡ 0
-  pub answered : Answered keys notes n x L credential first′ second sets (r .steps)
+  pub answered : Answered keys notes x L credential first′ second sets (r .steps)
   pub level : r .level ≡ levelOf notes x

@@ -1,13 +1,14 @@
 // Querying: a proof of least level for one role, set and minute, or a refusal.
 ghost use mathlib.Core.Path.{_≡_};
-ghost use Prim.Native.Nat.{_≤_, _<_};
+ghost use Prim.Native.Nat.{suc, _≤_, _<_};
 ghost use lib.ListN.{length};
 ghost use Rattle.meaning.specs.Credentials.{FitsAll};
+ghost use Rattle.file.specs.Refusals.{refused};
 ghost use Rattle.store.specs.Notes.{levelOf};
 ghost use Rattle.policy.specs.Policy.{credentialsOf, Decoded};
 ghost use Rattle.asking.specs.Asking.{request, stepLists};
 ghost use Rattle.answering.specs.Answering.{Citing};
-ghost use Rattle.querying.specs.Querying.{Queried, says};
+ghost use Rattle.querying.specs.Querying.{Queried, saysAnswer};
 ghost use Rattle.querying.specs.Working.{Worked, HandsOut};
 
 // How many steps the proof has, and its level; or a refusal.
@@ -34,7 +35,7 @@ pub fn query(
     second: &mut [u32],
     sets: &mut [u32],
 ) -> Answer
-    ensures { λ r. ⌜ Queried (now (file .entry)) (request role set minute) (stepLists (now (credential .entry)) (now (first .entry)) (now (second .entry)) (now (sets .entry))) (says r) (stepLists (now (credential .exit)) (now (first .exit)) (now (second .exit)) (now (sets .exit))) ⌝ }
+    ensures { λ r. ⌜ Queried (now (file .entry)) (request role set minute) (stepLists (now (credential .entry)) (now (first .entry)) (now (second .entry)) (now (sets .entry))) (saysAnswer r) (stepLists (now (credential .exit)) (now (first .exit)) (now (second .exit)) (now (sets .exit))) ⌝ }
 {
     let mut policy = policy::room();
     let j = asking::judge(
@@ -49,10 +50,7 @@ pub fn query(
         sets,
     );
     if j.number != 0 {
-        return Answer::Refused {
-            number: j.number,
-            place: j.place,
-        };
+        return refused(j.number, j.place);
     }
     let r = run(
         credential,
@@ -66,14 +64,8 @@ pub fn query(
         minute,
     );
     if r.number != 0 {
-        writing::clear32(credential);
-        writing::clear32(first);
-        writing::clear32(second);
-        writing::clear32(sets);
-        return Answer::Refused {
-            number: r.number,
-            place: 0,
-        };
+        answering::clear_from(credential, first, second, sets, 0);
+        return refused(r.number, 0);
     }
     Answer::Proof {
         steps: r.steps,
@@ -110,14 +102,14 @@ fn run(
         limit,
     );
     if limit < n {
-        return refusal(10);
+        return no_proof(10);
     }
     let key = store::key_of(role as usize, set as u64);
-    let c = store::entry_of(&keys, &slots, n, key);
+    let c = store::entry_of(&keys, &slots, key);
     if c == 0 {
-        return refusal(13);
+        return no_proof(13);
     }
-    hand_out(credential, first, second, sets, &keys, &notes, n, c - 1)
+    hand_out(credential, first, second, sets, &keys, &notes, c - 1)
 }
 
 // Writes the proof of entry x.
@@ -128,13 +120,12 @@ fn hand_out(
     sets: &mut [u32],
     keys: &[u64; 1024],
     notes: &[u16; 4096],
-    n: usize,
     x: usize,
 ) -> Search
-    requires { ⌜ (length (now keys) ≡ 1024) × (length (now notes) ≡ 4096) × (x < n) ⌝ ∗ ⌜ Citing (now notes) n ⌝ ∗ ⌜ (length (now first) ≡ length (now credential)) × (length (now second) ≡ length (now credential)) × (length (now sets) ≡ length (now credential)) × (n ≤ length (now credential)) × (length (now credential) ≤ 1024) ⌝ }
-    ensures { λ r. ⌜ HandsOut (now (keys .entry)) (now (notes .entry)) n x (length (now (credential .entry))) (now (credential .exit)) (now (first .exit)) (now (second .exit)) (now (sets .exit)) r ⌝ }
+    requires { ⌜ (length (now keys) ≡ 1024) × (length (now notes) ≡ 4096) ⌝ ∗ ⌜ Citing (now notes) (suc x) ⌝ ∗ ⌜ (length (now first) ≡ length (now credential)) × (length (now second) ≡ length (now credential)) × (length (now sets) ≡ length (now credential)) × (x < length (now credential)) × (length (now credential) ≤ 1024) ⌝ }
+    ensures { λ r. ⌜ HandsOut (now (keys .entry)) (now (notes .entry)) x (length (now (credential .entry))) (now (credential .exit)) (now (first .exit)) (now (second .exit)) (now (sets .exit)) r ⌝ }
 {
-    let steps = answering::answer(credential, first, second, sets, keys, notes, n, x);
+    let steps = answering::answer(credential, first, second, sets, keys, notes, x);
     Search {
         number: 0,
         steps: steps as u32,
@@ -142,7 +133,13 @@ fn hand_out(
     }
 }
 
-fn refusal(number: u32) -> Search
+fn refused(number: u32, place: u32) -> Answer
+    ensures { λ r. ⌜ saysAnswer r ≡ refused number place ⌝ }
+{
+    Answer::Refused { number, place }
+}
+
+fn no_proof(number: u32) -> Search
     ensures { λ r. ⌜ r ≡ record { number = number; steps = 0; level = 0 } ⌝ }
 {
     Search {
@@ -156,11 +153,5 @@ fn level_of(notes: &[u16; 4096], x: usize) -> u32
     requires { ⌜ (length (now notes) ≡ 4096) × (x < 1024) ⌝ }
     ensures { λ r. ⌜ r ≡ levelOf (now (notes .entry)) x ⌝ }
 {
-    wide(notes[4 * x + 3])
-}
-
-fn wide(x: u16) -> u32
-    ensures { λ r. ⌜ r ≡ x ⌝ }
-{
-    x as u32
+    store::wide(notes[4 * x + 3]) as u32
 }

@@ -9,7 +9,7 @@ use lib.Dec.{T, eqb, leb, eqb→eq, leb→le}
 use lib.ListN.{length}
 use Rattle.meaning.specs.Lists.{if}
 use Rattle.meaning.proofs.Tests.{and-left, and-right}
-use Rattle.file.specs.Refusals.{Row, first, _when_}
+use Rattle.file.specs.Refusals.{RefusalRow, first, _when_}
 use Rattle.file.specs.Reading.{between, reading}
 use Rattle.asking.specs.Asking.{Request, StepLists, oneLength, within, requestRows, asking}
 use Rattle.codec.proofs.Entries.{length-entries}
@@ -27,11 +27,11 @@ steps-whole b n z =
     ) refl
 
 -- 9 comes first after 1 to 8
-pub asked-nine : (f : List ℕ) (q : Request) (t : StepLists) → oneLength t ≡ false → {X : Type 0} (more : List Row) (a b : X)
+pub asked-nine : (f : List ℕ) (q : Request) (t : StepLists) → oneLength t ≡ false → {X : Type 0} (more : List RefusalRow) (a b : X)
     → first (asking f q t ++ more) a ≡ first (reading f ++ (9 when true ∷ [])) b
 unfolding asking
 asked-nine f q t e {X} more a b =
-    ap (λ (rows : List Row). first rows a) (append-assoc (reading f) (requestRows f q t) more)
+    ap (λ (rows : List RefusalRow). first rows a) (append-assoc (reading f) (requestRows f q t) more)
     ∙ ap (λ (o : Bool). first (reading f ++ (9 when (not o) ∷ (11 when (not (within f (q .role) (q .set) && not (eqb (q .set) 0))) ∷ 12 when (eqb (q .minute) 4294967295) ∷ more))) a) e
     ∙ nine-decides (reading f) (11 when (not (within f (q .role) (q .set) && not (eqb (q .set) 0))) ∷ 12 when (eqb (q .minute) 4294967295) ∷ more) a b
 
@@ -76,7 +76,7 @@ module _ (b : StepLists) where
       record { credential = omega arith; first = omega arith; second = omega arith; sets = omega arith; few = few }
 
   -- a reply that has the rows of a request first
-  pub steps-unfit : (f : List ℕ) (q : Request) → fit ≡ false → {X : Type 0} (more : List Row) (x y : X)
+  pub steps-unfit : (f : List ℕ) (q : Request) → fit ≡ false → {X : Type 0} (more : List RefusalRow) (x y : X)
       → if (wholeSteps b) (first (asking f q (stepListsIn b) ++ more) x) (notWhole f y) ≡ notWhole f y
   steps-unfit f q e {X} more x y = go (wholeSteps b) (sym fit-is ∙ e)
     where

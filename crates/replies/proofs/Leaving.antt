@@ -1,5 +1,5 @@
 -- What a call leaves in a list, as bytes.
-use mathlib.Core.Path.{_≡_, refl, sym, ap, _∙_, subst⁻¹}
+use mathlib.Core.Path.{_≡_, refl, sym, ap, ap₂, _∙_, subst⁻¹}
 use mathlib.Core.Bool.{Bool, true, false}
 use mathlib.Core.List.{List, _++_, append-nil}
 use Prim.Native.Nat.{ℕ, _*_, _≤_}
@@ -7,7 +7,7 @@ use native.Mathlib.Nat.{mul-zero}
 use native.Mathlib.Omega.{arith}
 use lib.Dec.{T}
 use lib.ListN.{length, take, drop, replicate}
-use lib.Seq.{drop-length, length-take-le, length-front, take-at}
+use lib.Seq.{take-length, drop-length, length-take-le, length-front, take-at}
 use Rattle.meaning.specs.Lists.{if}
 use Rattle.file.specs.Refusals.{Outcome, done, refused, left}
 use Rattle.codec.specs.Bytes.{bytesOf}
@@ -24,6 +24,12 @@ left-written k (refused n p) before list written w e = rw w (bytesOf-zeros k (le
 pub left-kept : {A : Type 0} (o : Outcome A) (before written : List ℕ) → writes o ≡ false → left o before written ≡ before
 left-kept (done a) before written w = absurd (subst⁻¹ T (sym w) tt)
 left-kept (refused n p) before written w = rw w refl
+
+-- n entries written over bytes of n entries
+pub all-bytes : (k n : ℕ) (xs before : List ℕ) → length xs ≡ n → length before ≡ k * n → bytesOf k (take n xs) ++ drop (k * n) before ≡ bytesOf k xs
+all-bytes k n xs before e size =
+    ap₂ (λ (i j : ℕ). bytesOf k (take i xs) ++ drop j before) (sym e) (sym size)
+    ∙ ap₂ (λ (x y : List ℕ). bytesOf k x ++ y) (take-length xs) (drop-length before) ∙ append-nil (bytesOf k xs)
 
 -- the first n places of a list of 1,024, lent to a call and come back as u
 module _ (n : ℕ) (room : List ℕ) (long : length room ≡ 1024) (few : n ≤ 1024) where

@@ -1,32 +1,29 @@
 -- Refusals 1 to 8, then 9.
-use mathlib.Core.Path.{_≡_, refl, sym, ap, _∙_}
+use mathlib.Core.Path.{_≡_, refl, sym, ap}
 use mathlib.Core.Bool.{Bool, true, false, _||_, not}
 use mathlib.Core.List.{List, [], _∷_, _++_}
 use Prim.Native.Nat.{ℕ, _+_, _*_}
 use lib.Dec.{T, eqb, T-not}
 use Rattle.meaning.specs.Lists.{all, each, below}
-use Rattle.meaning.specs.Table.{ends}
 use Rattle.meaning.proofs.Tests.{and-left, and-right, is-false}
-use Rattle.file.specs.declared.Refusal.{Refusal}
-use Rattle.file.specs.Refusals.{Row, Outcome, done, refused, first, numberOf, _when_}
-use Rattle.file.specs.Format.{N, credentials}
+use Rattle.file.specs.Refusals.{RefusalRow, Outcome, refused, first, _when_}
+use Rattle.file.specs.Format.{N}
 use Rattle.file.specs.Reading.{headRows, credentialRows, credentialsRows, endsRow, reading}
-use Rattle.file.proofs.First.{after, first-append, refusal-any, first-clear}
 use Rattle.ends.specs.declared.Ends.{Ends}
-use Rattle.ends.specs.Ends.{endsRead, endsOut, endsIn}
-use Rattle.ends.proofs.Surveying.{reading-numbered}
+use Rattle.ends.specs.Ends.{endsIn}
 use Rattle.asking.proofs.Asked.{all-append}
 use Rattle.replies.specs.Replies.{writes}
 use Rattle.replies.specs.Interface.{word, notWhole}
+use Rattle.replies.proofs.Files.{refused-first, accepted-first, ends-refused, ends-accepted}
 
 -- where 9 holds, the rows after it and the value on success play no part
-pub nine-decides : {A : Type 0} (rows more : List Row) (a b : A) → first (rows ++ (9 when true ∷ more)) a ≡ first (rows ++ (9 when true ∷ [])) b
+pub nine-decides : {A : Type 0} (rows more : List RefusalRow) (a b : A) → first (rows ++ (9 when true ∷ more)) a ≡ first (rows ++ (9 when true ∷ [])) b
 nine-decides [] more a b = refl
 nine-decides {A} (x ∷ rows) more a b =
     ap (λ (o : Outcome A). elim (x .holds) [ true ↦ refused (x .number) (x .place) | false ↦ o ]) (nine-decides rows more a b)
 
 -- and the reply is a refusal, so its number does not depend on what a value is
-pub nine-word : {A B : Type 0} (value : A → ℕ) (other : B → ℕ) (rows : List Row) (a : A) (b : B)
+pub nine-word : {A B : Type 0} (value : A → ℕ) (other : B → ℕ) (rows : List RefusalRow) (a : A) (b : B)
     → word value (first (rows ++ (9 when true ∷ [])) a) ≡ word other (first (rows ++ (9 when true ∷ [])) b)
 nine-word value other [] a b = refl
 nine-word {A} {B} value other (x ∷ rows) a b = go (x .holds) (nine-word value other rows a b)
@@ -39,10 +36,10 @@ nine-word {A} {B} value other (x ∷ rows) a b = go (x .holds) (nine-word value 
 
 -- ---- none of 1 to 9 writes or clears a list
 
-abbrev keeps : Row → Bool
+abbrev keeps : RefusalRow → Bool
 keeps r = not (eqb (r .number) 10 || eqb (r .number) 13)
 
-rows-keep : {A : Type 0} (rows : List Row) (a : A) → T (all keeps rows) → writes (first (rows ++ (9 when true ∷ [])) a) ≡ false
+rows-keep : {A : Type 0} (rows : List RefusalRow) (a : A) → T (all keeps rows) → writes (first (rows ++ (9 when true ∷ [])) a) ≡ false
 rows-keep [] a t = refl
 rows-keep {A} (x ∷ rows) a t = go (x .holds) (rows-keep rows a (and-right (keeps x) (all keeps rows) t))
   where
@@ -50,7 +47,7 @@ rows-keep {A} (x ∷ rows) a t = go (x .holds) (rows-keep rows a (and-right (kee
     go true e = is-false (eqb (x .number) 10 || eqb (x .number) 13) (T-not (eqb (x .number) 10 || eqb (x .number) 13) (and-left (keeps x) (all keeps rows) t))
     go false e = e
 
-each-keeps : {A : Type 0} (g : A → List Row) (l : List A) → ((y : A) → T (all keeps (g y))) → T (all keeps (each g l))
+each-keeps : {A : Type 0} (g : A → List RefusalRow) (l : List A) → ((y : A) → T (all keeps (g y))) → T (all keeps (each g l))
 each-keeps g [] h = tt
 each-keeps g (y ∷ l) h = all-append keeps (g y) (each g l) (h y) (each-keeps g l h)
 
@@ -66,26 +63,11 @@ nine-keeps f a = rows-keep (reading f) a (reading-keeps f)
 -- ---- the reply by the file's ends
 
 module _ (f : List ℕ) (e : Ends) (u : e ≡ endsIn f) where
-  then : notWhole f 0 ≡ after {B = ℕ} (endsRead f) (refused 9 0)
-  then = first-append {A = List ℕ} {B = ℕ} (reading f) (9 when true ∷ []) (ends (credentials f)) 0
+  abbrev nine : List RefusalRow
+  nine = 9 when true ∷ []
 
   pub file-refused : (e .number ≡ 0 → ⊥) → e .number * 4294967296 + e .place ≡ word (λ n. n) (notWhole f 0)
-  unfolding endsIn
-  file-refused h = sym (ap (word (λ (n : ℕ). n)) then ∙ go (endsRead f) u)
-    where
-      go : (o : Outcome (List ℕ)) → e ≡ endsOut o → word (λ (n : ℕ). n) (after o (refused 9 0)) ≡ e .number * 4294967296 + e .place
-      go (done es) u = absurd (h (ap (λ (x : Ends). x .number) u))
-      go (refused n p) u = λ j. sym u j .number * 4294967296 + sym u j .place
+  file-refused h = sym (ap (word (λ (n : ℕ). n)) (refused-first f nine 0 (ends-refused f e u h)))
 
   pub file-passed : e .number ≡ 0 → 9 * 4294967296 + 0 ≡ word (λ n. n) (notWhole f 0)
-  unfolding endsIn
-  file-passed z = sym (ap (word (λ (n : ℕ). n)) (then ∙ ap (λ (o : Outcome (List ℕ)). after {B = ℕ} o (refused 9 0)) clear))
-    where
-      number : (o : Outcome (List ℕ)) → e ≡ endsOut o → numberOf o ≡ e .number
-      number (done es) u = sym (ap (λ (x : Ends). x .number) u)
-      number (refused n p) u = sym (ap (λ (x : Ends). x .number) u)
-
-      clear : endsRead f ≡ done (ends (credentials f))
-      clear =
-          first-clear (reading f) (ends (credentials f)) (reading-numbered f)
-          (sym (ap (λ (r : Refusal). r .number) (refusal-any (reading f) (ends (credentials f)))) ∙ number (endsRead f) u ∙ z)
+  file-passed z = sym (ap (word (λ (n : ℕ). n)) (accepted-first f nine 0 (ends-accepted f e u z .0)))

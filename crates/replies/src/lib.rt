@@ -1,4 +1,4 @@
-// What the three calls on bytes share: refusals as one number, the test of step lists, lists of their own.
+// What the calls on bytes share: refusals as one number, the test of step lists, lists of their own.
 ghost use mathlib.Core.Path.{_≡_};
 ghost use mathlib.Core.Bool.{_||_};
 ghost use Prim.Native.Nat.{_+_, _*_};

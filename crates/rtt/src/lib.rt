@@ -6,6 +6,8 @@ ghost use Rattle.replies.specs.Interface.{word};
 ghost use Rattle.complete_bytes.specs.Interface.{completeBytes};
 ghost use Rattle.query_bytes.specs.Interface.{QueriedBytes};
 ghost use Rattle.check_bytes.specs.Interface.{checkReply};
+ghost use Rattle.ends_bytes.specs.Interface.{endsReply, endsBytes};
+ghost use Rattle.intervals_bytes.specs.Interface.{intervalsReply, intervalsBytes};
 
 // Completes the table.
 #[no_mangle]
@@ -77,4 +79,22 @@ pub extern "C" fn rtt_check(
         steps as usize,
         n,
     )
+}
+
+// Writes the ends of the file's periods into 256 bytes.
+#[no_mangle]
+pub extern "C" fn rtt_ends(file: &[u8], ends: &mut [u8]) -> u64
+    ensures { λ r. ⌜ r ≡ word (λ n. n) (endsReply (now (file .entry)) (now (ends .entry))) ⌝ }
+    ensures { λ _. ⌜ now (ends .exit) ≡ endsBytes (now (file .entry)) (now (ends .entry)) ⌝ }
+{
+    ends_bytes::ends(ends, file)
+}
+
+// Writes the intervals of a span number, from and to in turn, into 256 bytes.
+#[no_mangle]
+pub extern "C" fn rtt_intervals(file: &[u8], spans: u64, bounds: &mut [u8]) -> u64
+    ensures { λ r. ⌜ r ≡ word (λ n. n) (intervalsReply (now (file .entry)) spans (now (bounds .entry))) ⌝ }
+    ensures { λ _. ⌜ now (bounds .exit) ≡ intervalsBytes (now (file .entry)) spans (now (bounds .entry)) ⌝ }
+{
+    intervals_bytes::intervals(bounds, file, spans)
 }

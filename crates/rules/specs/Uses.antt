@@ -14,16 +14,7 @@ pub use Rattle.rules.specs.declared.Use.{Use}
 abbrev pub useOf : ℕ → ℕ → ℕ → ℕ → Use
 useOf family kind other head = record { family = family; kind = kind; other = other; head = head }
 
--- the uses of a statement: kinds 3 to 5 have one for each premise, a link has one for each premise, a set has none
-abbrev pub UsedBy : Body → ℕ → Use → Type 0
-UsedBy (set X) Ar u = ⊥
-UsedBy (role Bs) Ar u = u ≡ useOf Bs 1 0 Ar
-UsedBy (link Bs t) Ar u = (u ≡ useOf Bs 2 t Ar) ⊎ (u ≡ useOf (1024 + t) 2 Bs Ar)
-UsedBy (Bs ∩ Ct) Ar u = (u ≡ useOf Bs 3 Ct Ar) ⊎ (u ≡ useOf Ct 3 Bs Ar)
-UsedBy (Bs ⊙ Ct) Ar u = (u ≡ useOf Bs 4 Ct Ar) ⊎ (u ≡ useOf Ct 4 Bs Ar)
-UsedBy (Bs ⊗ Ct) Ar u = (u ≡ useOf Bs 5 Ct Ar) ⊎ (u ≡ useOf Ct 5 Bs Ar)
-
--- the use of a statement by its first premise, or by its second
+-- the use of a statement by its first premise, or by its second; an inclusion has only the first, a set none
 abbrev pub UsedAs : Bool → Body → ℕ → Use → Type 0
 UsedAs second (set X) Ar u = ⊥
 UsedAs false (role Bs) Ar u = u ≡ useOf Bs 1 0 Ar
@@ -36,6 +27,10 @@ UsedAs false (Bs ⊙ Ct) Ar u = u ≡ useOf Bs 4 Ct Ar
 UsedAs true (Bs ⊙ Ct) Ar u = u ≡ useOf Ct 4 Bs Ar
 UsedAs false (Bs ⊗ Ct) Ar u = u ≡ useOf Bs 5 Ct Ar
 UsedAs true (Bs ⊗ Ct) Ar u = u ≡ useOf Ct 5 Bs Ar
+
+-- the uses of a statement
+abbrev pub UsedBy : Body → ℕ → Use → Type 0
+UsedBy e Ar u = (second : Bool) × UsedAs second e Ar u
 
 -- a source as a word: the position of a credential that has a use, and which premise it is
 abbrev pub sourceOf : Bool → ℕ → ℕ

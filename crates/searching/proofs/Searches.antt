@@ -14,11 +14,11 @@ use Rattle.policy.specs.Policy.{credentialOf, credentialsOf, Decoded}
 use Rattle.policy.proofs.Policies.{length-of, credential-of, decoded-fits}
 use Rattle.store.specs.Entries.{keyOf, roleIn, setIn}
 use Rattle.store.specs.Notes.{word, levelOf, Leveled}
-use Rattle.store.proofs.Chains.{equal-or-not}
+use Rattle.store.proofs.Chains.{equal-or-not, below-or-not}
 use Rattle.store.proofs.Notes.{word-same, level-same, level-by-none}
 use Rattle.store.proofs.Stores.{distinct-keys}
 use Rattle.heads.specs.Gaining.{Kept, Gains}
-use Rattle.heads.proofs.Gaining.{below-or-not, over-more}
+use Rattle.heads.proofs.Gaining.{over-more}
 use Rattle.closure.specs.Closure.{Closed, TooMany}
 use Rattle.levels.specs.Levels.{AtStart, NotedBy, OneSpan, FiredAll}
 use Rattle.loading.specs.Loading.{States, StatedBy, FactBy, UsesLoaded, statementsIn}

@@ -19,7 +19,6 @@ use Rattle.heads.specs.Heads.{FromHead}
 use Rattle.premises.specs.Combining.{Combined, Keyed, Offers}
 use Rattle.closing.proofs.Premises.{By, combined-below, use-head}
 use Rattle.loading.specs.Loading.{Sourced}
-use Rattle.loading.proofs.Usables.{as-used}
 use Rattle.searching.proofs.Statements.{keyed-below, as-first, as-second, Takes, takes-first, takes-second}
 use Rattle.searching.proofs.Reasons.{Reason}
 
@@ -45,7 +44,7 @@ module _ {p : List ℕ} {n : ℕ} {es : List ℕ} {count : ℕ} {codes lists : L
   Ar = x .statement .head
 
   fits : Fitting u
-  fits = fit u (as-used (s .second) body′ Ar u (s .used))
+  fits = fit u (s .second, s .used)
 
   coded : getD codes body 0 ≡ bodyCode (u .family) (u .kind) (u .other)
   coded = ap (λ (x : ℕ). getD codes x 0) (sym of) ∙ s .coded .bodyCoded
@@ -60,7 +59,7 @@ module _ {p : List ℕ} {n : ℕ} {es : List ℕ} {count : ℕ} {codes lists : L
   source-other = ap otherIn coded ∙ other-in-code (u .family) (u .kind) (u .other) (fits .kind) (fits .other)
 
   source-head : headOf codes i ≡ Ar
-  source-head = ap headIn (s .coded .headCoded) ∙ head-in-code (bodyOfHead codes i) (u .head) (fits .head) ∙ use-head body′ Ar u (as-used (s .second) body′ Ar u (s .used))
+  source-head = ap headIn (s .coded .headCoded) ∙ head-in-code (bodyOfHead codes i) (u .head) (fits .head) ∙ use-head body′ Ar u (s .second, s .used)
 
   module _ (m : ℕ) {keys done : List ℕ} {n₀ e X other : ℕ} (v : T (covers (x .period) m)) (small : roleIn (getD keys e 0) < 1024) (o : Offers keys done n₀ e (getD codes body 0) X other) where
     abbrev a : ℕ

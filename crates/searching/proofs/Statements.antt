@@ -54,7 +54,7 @@ module _ (a b X : ℕ) (low : roleIn a < 1024) where
   pub as-first : (e : Body) (Ar : ℕ) (u : Use) → ((v : Use) → UsedBy e Ar v → Fitting v) → UsedAs false e Ar u → By (Keyed b) a X u → Gives (Keyed a) (Keyed b) e X
   as-first (set Y) Ar u f w c = absurd w
   as-first (role Bs) Ar u f w c = by-role (subst (By (Keyed b) a X) w c)
-  as-first (link Bs t) Ar u f w c = by-link (f (useOf (1024 + t) 2 Bs Ar) (inr refl) .other) (subst (By (Keyed b) a X) w c)
+  as-first (link Bs t) Ar u f w c = by-link (f (useOf (1024 + t) 2 Bs Ar) (true, refl) .other) (subst (By (Keyed b) a X) w c)
   as-first (Bs ∩ Ct) Ar u f w c = by-first (subst (By (Keyed b) a X) w c)
   as-first (Bs ⊙ Ct) Ar u f w c = by-union (subst (By (Keyed b) a X) w c)
   as-first (Bs ⊗ Ct) Ar u f w c = by-product (subst (By (Keyed b) a X) w c)

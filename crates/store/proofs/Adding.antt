@@ -10,27 +10,13 @@ use lib.Bits.{bitOr}
 use lib.ListN.{length, getD, set, length-set}
 use lib.Seq.{getD-set-same, getD-set-other}
 use Rattle.meaning.specs.Table.{bit}
-use Rattle.meaning.proofs.Bits.{bit-below-two, bit-or, bit-of-zero, bit-ext}
+use Rattle.meaning.proofs.Bits.{bit-or, bit-of-zero, bit-ext, union-left, union-right, union-cases}
 use Rattle.store.specs.Entries.{roleIn, Has, Chained, Stored, pushed, At, Added}
 use Rattle.store.proofs.Chains.{last-or-below, equal-or-not, linked-push}
 use Rattle.store.proofs.Searches.{searchable-append}
 use Rattle.store.proofs.Stores.{grown-refl}
 
--- ---- united spans
-
-bit-kept : (a m s : ℕ) → bit a s ≡ 1 → bit (bitOr a m) s ≡ 1
-bit-kept a m s e = omega (arith, bit-or a m s, bit-below-two m s)
-
-bit-joined : (a m s : ℕ) → bit m s ≡ 1 → bit (bitOr a m) s ≡ 1
-bit-joined a m s e = omega (arith, bit-or a m s, bit-below-two a s)
-
-bit-cases : (a m s : ℕ) → bit (bitOr a m) s ≡ 1 → (bit a s ≡ 1) ⊎ (bit m s ≡ 1)
-bit-cases a m s e = go (equal-or-not (bit a s) 1)
-  where
-    go : (bit a s ≡ 1) ⊎ (bit a s ≡ 1 → ⊥) → (bit a s ≡ 1) ⊎ (bit m s ≡ 1)
-    go (inl f) = inl f
-    go (inr nf) = inr (omega (arith, bit-or a m s, bit-below-two a s))
-
+-- a union that is empty is of empty parts
 or-none : (a m : ℕ) → bitOr a m ≡ 0 → a ≡ 0
 or-none a m e = bit-ext a 0 (λ s. let z = ap (λ (x : ℕ). bit x s) e ∙ bit-of-zero s in omega (arith, bit-or a m s, bit-of-zero s))
 
@@ -75,7 +61,7 @@ module _ (limit key m : ℕ) (keys spans slots links : List ℕ) (n : ℕ) (st :
       at-other i ne = getD-set-other spans j i (bitOr (getD spans j 0) m) 0 ne
 
       keep : (i s : ℕ) → bit (getD spans i 0) s ≡ 1 → (i ≡ j) ⊎ (i ≡ j → ⊥) → bit (getD spans′ i 0) s ≡ 1
-      keep i s b (inl f) = rw f (rw at-j (bit-kept (getD spans j 0) m s (rw f at b)))
+      keep i s b (inl f) = rw f (rw at-j (union-left (getD spans j 0) m s (rw f at b)))
       keep i s b (inr nf) = rw (at-other i nf) b
 
       none : (i : ℕ) → getD spans′ i 0 ≡ 0 → (i ≡ j) ⊎ (i ≡ j → ⊥) → getD spans i 0 ≡ 0
@@ -90,12 +76,12 @@ module _ (limit key m : ℕ) (keys spans slots links : List ℕ) (n : ℕ) (st :
           last q (inr c) = inr (sym f ∙ ap (λ (x : ℕ). getD keys x 0) q ∙ e, c)
 
           go : (i ≡ j) ⊎ (i ≡ j → ⊥) → Has keys spans n k s ⊎ ((k ≡ key) × (bit m s ≡ 1))
-          go (inl q) = last q (bit-cases (getD spans j 0) m s (sym (ap (λ (x : ℕ). bit x s) (ap (λ (x : ℕ). getD spans′ x 0) q ∙ at-j)) ∙ b))
+          go (inl q) = last q (union-cases (getD spans j 0) m s (sym (ap (λ (x : ℕ). bit x s) (ap (λ (x : ℕ). getD spans′ x 0) q ∙ at-j)) ∙ b))
           go (inr nq) = inl (i, o, f, sym (ap (λ (x : ℕ). bit x s) (at-other i nq)) ∙ b)
 
       back : (k s : ℕ) → Has keys spans n k s ⊎ ((k ≡ key) × (bit m s ≡ 1)) → Has keys spans′ n k s
       back k s (inl (i, o, f, b)) = (i, o, f, keep i s b (equal-or-not i j))
-      back k s (inr (f, b)) = (j, l, e ∙ sym f, rw at-j (bit-joined (getD spans j 0) m s b))
+      back k s (inr (f, b)) = (j, l, e ∙ sym f, rw at-j (union-right (getD spans j 0) m s b))
 
   -- no room for a new entry
   pub added-over : n ≤ limit → limit ≤ n → (m ≡ 0 → ⊥) → ((i : ℕ) → i < n → getD keys i 0 ≡ key → ⊥) → Added limit key m keys spans n keys spans slots links (limit + 1)
@@ -110,7 +96,7 @@ module _ (limit key m : ℕ) (keys spans slots links : List ℕ) (n : ℕ) (st :
       }
 
 -- a new entry
-module _ (limit key : ℕ) (keys slots links : List ℕ) (n p : ℕ) (st : Stored keys slots links n) (h : n < limit) (few : limit ≤ 1024) (low : roleIn key < 1024) (a : At keys slots n key p) (z : getD slots p 0 ≡ 0) where
+module _ (limit key : ℕ) (keys slots links : List ℕ) (n p : ℕ) (st : Stored keys slots links n) (h : n < limit) (few : limit ≤ 1024) (low : roleIn key < 1024) (a : At keys slots key p) (z : getD slots p 0 ≡ 0) where
   klen : n < length keys
   klen = let e = st .room .0 in omega arith
 

@@ -6,8 +6,8 @@ use mathlib.Core.List.{List}
 use Prim.Native.Nat.{ℕ, zero, suc, _+_, _≤_, _<_, zero-le}
 use native.Mathlib.Nat.{suc-inj, le-refl, le-of-suc-le-suc, not-suc-le-zero, eq-or-lt-of-le}
 use native.Mathlib.Omega.{arith}
-use borrow.Author.Tests.{eqb-true, eqb-false, eq-eqb, ne-eqb}
-use lib.Dec.{eqb}
+use borrow.Author.Tests.{eqb-true, eqb-false, eq-eqb, ne-eqb, ltb-true, ltb-false}
+use lib.Dec.{eqb, ltb}
 use lib.ListN.{length, getD, set, length-set}
 use lib.Seq.{getD-set-same, getD-set-other}
 use Rattle.store.specs.Entries.{latest, Chained, pushed}
@@ -30,6 +30,14 @@ equal-or-not a b = go (eqb a b) refl
     go : (t : Bool) → eqb a b ≡ t → (a ≡ b) ⊎ (a ≡ b → ⊥)
     go true e = inl (eqb-true a b e)
     go false e = inr (eqb-false a b e)
+
+-- below, or not
+pub below-or-not : (a b : ℕ) → (a < b) ⊎ (b ≤ a)
+below-or-not a b = go (ltb a b) refl
+  where
+    go : (t : Bool) → ltb a b ≡ t → (a < b) ⊎ (b ≤ a)
+    go true e = inl (ltb-true a b e)
+    go false e = inr (ltb-false a b e)
 
 module _ (family : ℕ → ℕ) (r : ℕ) where
   pub latest-below : (n : ℕ) → latest family r n ≤ n

@@ -2,12 +2,12 @@
 use mathlib.Core.Path.{_≡_, refl, sym, ap, _∙_, subst}
 use mathlib.Core.Logic.{_⊎_, inl, inr}
 use mathlib.Core.List.{List}
-use Prim.Native.Nat.{ℕ, suc, _+_, _-_, _*_, _/_, _%_, _≤_, _<_}
+use Prim.Native.Nat.{ℕ, zero, suc, _+_, _-_, _*_, _/_, _%_, _≤_, _<_}
 use native.Mathlib.Nat.{suc-inj}
 use native.Mathlib.Omega.{arith}
 use lib.ListN.{length, getD, set}
 use lib.Seq.{getD-set-same, getD-set-other}
-use Rattle.store.specs.Entries.{Leads, here, next, Comes, Searchable, At}
+use Rattle.store.specs.Entries.{Leads, here, next, Comes, Searchable, Leading, At, EntryOf}
 use Rattle.store.proofs.Chains.{last-or-below, equal-or-not}
 
 -- at most an entry of the key stands at the place
@@ -54,38 +54,41 @@ module _ (keys slots : List ℕ) (n : ℕ) (s : Searchable keys slots n) where
       (sym (r .2)
       ∙ stops-at (getD keys i 0) (r .0) j (r .1) (λ k f. let q : i ≡ k = suc-inj (sym (r .2) ∙ f) in ap (λ (x : ℕ). getD keys x 0) (sym q)) m (sym e))
 
-  -- a slot with the number w
-  module _ (p w : ℕ) (e : w ≡ getD slots p 0) where
-    pub slot-used : (w ≡ 0 → ⊥) → (w ≤ n) × (p < 1022 + 2 * w)
-    slot-used nz =
-        let f : getD slots p 0 ≡ suc (w - 1) = omega arith in
-        let a = s .within p (w - 1) f in
-        let b = s .later p (w - 1) f in
-        (omega arith, omega arith)
+  pub leading : n ≤ 1024 → Leading slots
+  leading few p i e = (let h = s .within p i e in omega arith, s .later p i e)
 
-    module _ (key : ℕ) (few : n ≤ 1024) (low : p < 1024 + 2 * n) (h : Comes keys slots key p) where
-      pub at-empty : w ≡ 0 → At keys slots n key p
-      at-empty z =
-          record {
-            comes = h;
-            within = omega arith;
-            absent = λ _ i l f. let r = stops-at key p i h (λ j f. absurd (omega arith)) l f in omega arith;
-            present = λ i f. absurd (omega arith);
-          }
+  -- where a search ends stands the entry with the key, or none has it
+  pub entry-at : {key p : ℕ} → At keys slots key p → EntryOf keys n key (getD slots p 0)
+  entry-at {key} {p} a =
+      record {
+        absent = λ z i l f. let r = stops-at key p i (a .comes) (a .stops) l f in omega arith;
+        present = λ i f. (s .within p i f, a .stops i f);
+      }
 
-      pub at-entry : (w ≡ 0 → ⊥) → getD keys (w - 1) 0 ≡ key → At keys slots n key p
-      at-entry nz k =
-          record {
-            comes = h;
-            within = omega arith;
-            absent = λ z. absurd (nz (e ∙ z));
-            present = λ i f.
-                let q : w - 1 ≡ i = omega arith in
-                (s .within p i f, subst (λ (x : ℕ). getD keys x 0 ≡ key) q k);
-          }
+-- a slot with the number w
+module _ (keys slots : List ℕ) (o : Leading slots) (p w : ℕ) (e : w ≡ getD slots p 0) where
+  pub slot-low : w ≤ 1024
+  slot-low = go w refl
+    where
+      go : (x : ℕ) → w ≡ x → w ≤ 1024
+      go zero f = omega arith
+      go (suc i) f = let h = o p i (sym e ∙ f) .0 in omega arith
+
+  pub slot-used : (w ≡ 0 → ⊥) → (w ≤ 1024) × (p < 1022 + 2 * w)
+  slot-used nz =
+      let f : getD slots p 0 ≡ suc (w - 1) = omega arith in
+      let h = o p (w - 1) f in
+      (omega arith, omega arith)
+
+  module _ (key : ℕ) (low : p < 3072) (h : Comes keys slots key p) where
+    pub at-empty : w ≡ 0 → At keys slots key p
+    at-empty z = record { comes = h; within = low; stops = λ i f. absurd (omega arith) }
+
+    pub at-entry : getD keys (w - 1) 0 ≡ key → At keys slots key p
+    at-entry k = record { comes = h; within = low; stops = λ i f. let q : w - 1 ≡ i = omega arith in subst (λ (x : ℕ). getD keys x 0 ≡ key) q k }
 
 -- entry n is made, in the empty slot where the search for its key ended
-module _ (keys slots : List ℕ) (n key p : ℕ) (s : Searchable keys slots n) (kroom : n < length keys) (proom : p < length slots) (a : At keys slots n key p) (z : getD slots p 0 ≡ 0) where
+module _ (keys slots : List ℕ) (n key p : ℕ) (s : Searchable keys slots n) (kroom : n < length keys) (proom : p < length slots) (a : At keys slots key p) (z : getD slots p 0 ≡ 0) where
   new-slot : getD (set slots p (n + 1)) p 0 ≡ suc n
   new-slot = let e = getD-set-same slots p (n + 1) 0 proom in omega arith
 

@@ -1,25 +1,15 @@
 -- The store for its callers: no key twice, the empty store, and stores that only grow.
 use mathlib.Core.Path.{_≡_, refl, sym, _∙_, subst}
 use mathlib.Core.Logic.{_⊎_, inl, inr}
-use mathlib.Core.Bool.{Bool, true, false}
 use mathlib.Core.List.{List}
 use Prim.Native.Nat.{ℕ, suc, _+_, _≤_, _<_}
 use native.Mathlib.Nat.{le-refl, le-trans, not-suc-le-zero, lt-of-lt-of-le}
 use native.Mathlib.Omega.{arith}
-use borrow.Author.Tests.{ltb-true, ltb-false}
-use lib.Dec.{ltb}
 use lib.ListN.{length, getD, List·getD-eq-default}
 use Rattle.meaning.specs.Table.{bit}
 use Rattle.store.specs.Entries.{roleIn, Has, Stored, Grown}
-use Rattle.store.proofs.Chains.{chained-none}
+use Rattle.store.proofs.Chains.{below-or-not, chained-none}
 use Rattle.store.proofs.Searches.{distinct}
-
-lt-or-le : (a b : ℕ) → (a < b) ⊎ (b ≤ a)
-lt-or-le a b = go (ltb a b) refl
-  where
-    go : (t : Bool) → ltb a b ≡ t → (a < b) ⊎ (b ≤ a)
-    go true e = inl (ltb-true a b e)
-    go false e = inr (ltb-false a b e)
 
 pub distinct-keys : {keys slots links : List ℕ} {n : ℕ} → Stored keys slots links n → (i j : ℕ) → i < n → j < n → getD keys i 0 ≡ getD keys j 0 → i ≡ j
 distinct-keys {keys} {slots} {links} {n} s = distinct keys slots n (s .searchable)
@@ -46,7 +36,7 @@ empty-stored keys slots links a b c z y =
     }
   where
     none : (p i : ℕ) → getD slots p 0 ≡ suc i → ⊥
-    none p i e = go (lt-or-le p 3072)
+    none p i e = go (below-or-not p 3072)
       where
         go : (p < 3072) ⊎ (3072 ≤ p) → ⊥
         go (inl l) = omega (arith, z p l)

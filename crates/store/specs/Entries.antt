@@ -66,17 +66,25 @@ pub record Stored (keys slots links : List ℕ) (n : ℕ) : Type 0 where
   pub searchable : Searchable keys slots n
   pub chained : Chained (λ i. roleIn (getD keys i 0)) 1024 n (λ r. getD links (1024 + r) 0) (λ i. getD links i 0)
 
--- the place where a search ends: the entry with the key, or an empty slot where there is none
-pub record At (keys slots : List ℕ) (n key p : ℕ) : Type 0 where
+-- entries are below 1,024, and the slots of an entry lead to later ones: every search ends
+abbrev pub Leading : List ℕ → Type 0
+Leading slots = (p i : ℕ) → getD slots p 0 ≡ suc i → (i < 1024) × (p < 1024 + 2 * i)
+
+-- the place where a search ends: an empty slot, or that of an entry with the key
+pub record At (keys slots : List ℕ) (key p : ℕ) : Type 0 where
   pub comes : Comes keys slots key p
   pub within : p < 3072
-  pub absent : getD slots p 0 ≡ 0 → (i : ℕ) → i < n → getD keys i 0 ≡ key → ⊥
-  pub present : (i : ℕ) → getD slots p 0 ≡ suc i → (i < n) × (getD keys i 0 ≡ key)
+  pub stops : (i : ℕ) → getD slots p 0 ≡ suc i → getD keys i 0 ≡ key
 
 -- r is one more than the number of the entry with the key among the first n, or 0 where there is none
 pub record EntryOf (keys : List ℕ) (n key r : ℕ) : Type 0 where
   pub absent : r ≡ 0 → (i : ℕ) → i < n → getD keys i 0 ≡ key → ⊥
   pub present : (i : ℕ) → r ≡ suc i → (i < n) × (getD keys i 0 ≡ key)
+
+-- the same, for every n of which the first n entries can be searched
+pub record LookedUp (keys slots : List ℕ) (key r : ℕ) : Type 0 where
+  pub within : r ≤ 1024
+  pub entry : (n : ℕ) → Searchable keys slots n → EntryOf keys n key r
 
 -- among the first n entries, one has the key, and its spans have all of m
 abbrev pub HasAll : List ℕ → List ℕ → ℕ → ℕ → ℕ → Type 0

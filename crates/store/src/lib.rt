@@ -3,31 +3,24 @@ ghost use mathlib.Core.Path.{_≡_};
 ghost use mathlib.Core.Bool.{true};
 ghost use Prim.Native.Nat.{ℕ, _+_, _<_, _≤_, max};
 ghost use lib.ListN.{length, set, replicate};
-ghost use Rattle.store.specs.Entries.{keyOf, roleIn, setIn, mixed, pushed, Searchable, Stored, At, EntryOf, HasAll, Added};
+ghost use Rattle.store.specs.Entries.{keyOf, roleIn, setIn, mixed, pushed, Searchable, Stored, Leading, At, LookedUp, HasAll, Added};
 ghost use Rattle.store.specs.Notes.{noted, levelBy, Leveled};
 
 // One more than the number of the entry with the key, or 0.
-pub fn entry_of(keys: &[u64; 1024], slots: &[u16; 3072], n: usize, key: u64) -> usize
-    requires { ⌜ Searchable (now keys) (now slots) n ⌝ ∗ ⌜ (length (now keys) ≡ 1024) × (length (now slots) ≡ 3072) × (n ≤ 1024) ⌝ }
-    ensures { λ r. ⌜ EntryOf (now (keys .entry)) n key r ⌝ }
+pub fn entry_of(keys: &[u64; 1024], slots: &[u16; 3072], key: u64) -> usize
+    requires { ⌜ Leading (now slots) ⌝ ∗ ⌜ (length (now keys) ≡ 1024) × (length (now slots) ≡ 3072) ⌝ }
+    ensures { λ r. ⌜ LookedUp (now (keys .entry)) (now (slots .entry)) key r ⌝ }
 {
-    let p = find(keys, slots, n, key);
+    let p = find(keys, slots, key);
     wide(slots[p])
 }
 
 // Whether an entry is known to have the key in all spans of m.
-pub fn known(
-    keys: &[u64; 1024],
-    spans: &[u64; 1024],
-    slots: &[u16; 3072],
-    n: usize,
-    key: u64,
-    m: u64,
-) -> bool
-    requires { ⌜ Searchable (now keys) (now slots) n ⌝ ∗ ⌜ (length (now keys) ≡ 1024) × (length (now slots) ≡ 3072) × (n ≤ 1024) ⌝ }
-    ensures { λ r. ⌜ (r ≡ true → HasAll (now (keys .entry)) (now (spans .entry)) n key m) ⌝ }
+pub fn known(keys: &[u64; 1024], spans: &[u64; 1024], slots: &[u16; 3072], key: u64, m: u64) -> bool
+    requires { ⌜ Leading (now slots) ⌝ ∗ ⌜ (length (now keys) ≡ 1024) × (length (now slots) ≡ 3072) ⌝ }
+    ensures { λ r. ⌜ (r ≡ true → (n : ℕ) → Searchable (now (keys .entry)) (now (slots .entry)) n → HasAll (now (keys .entry)) (now (spans .entry)) n key m) ⌝ }
 {
-    let c = entry_of(keys, slots, n, key);
+    let c = entry_of(keys, slots, key);
     if c == 0 {
         return false;
     }
@@ -51,7 +44,7 @@ pub fn add(
     if m == 0 {
         return n;
     }
-    let p = find(keys, slots, n, key);
+    let p = find(keys, slots, key);
     let c = wide(slots[p]);
     if c != 0 {
         spans[c - 1] = spans[c - 1] | m;
@@ -140,9 +133,9 @@ fn mix(key: u64) -> u64
 }
 
 // Where a search for a key ends: at the slot of its entry, or at an empty one.
-fn find(keys: &[u64; 1024], slots: &[u16; 3072], n: usize, key: u64) -> usize
-    requires { ⌜ Searchable (now keys) (now slots) n ⌝ ∗ ⌜ (length (now keys) ≡ 1024) × (length (now slots) ≡ 3072) × (n ≤ 1024) ⌝ }
-    ensures { λ p. ⌜ At (now (keys .entry)) (now (slots .entry)) n key p ⌝ }
+fn find(keys: &[u64; 1024], slots: &[u16; 3072], key: u64) -> usize
+    requires { ⌜ Leading (now slots) ⌝ ∗ ⌜ (length (now keys) ≡ 1024) × (length (now slots) ≡ 3072) ⌝ }
+    ensures { λ p. ⌜ At (now (keys .entry)) (now (slots .entry)) key p ⌝ }
 {
     let mut x = mix(key);
     let mut p = (x % 1024) as usize;

@@ -1,9 +1,12 @@
 -- The decimal of a number: one digit below ten, else the decimal of a tenth of it and the last digit; at most ten digits.
 use mathlib.Core.Path.{_≡_, refl, sym, ap, _∙_}
+use mathlib.Core.Bool.{Bool, true, false}
 use mathlib.Core.List.{List, [], _∷_, _++_}
 use Prim.Native.Nat.{ℕ, zero, suc, _+_, _*_, _/_, _%_, _^_, _≤_, _<_}
 use native.Mathlib.Nat.{pow-suc}
 use native.Mathlib.Omega.{arith}
+use borrow.Author.Tests.{ltb-true, ltb-false}
+use lib.Dec.{ltb}
 use lib.ListN.{length, length-append}
 use Rattle.text.specs.Lines.{digits, decimal}
 
@@ -54,8 +57,25 @@ decimal-more x h k =
     ended-some 9 (48 + x % 10) (x / 10) (omega arith)
     ∙ ap (λ (l : List ℕ). l ++ (48 + x % 10) ∷ []) (digits-suc 8 (x / 10) (omega arith))
 
+ended-some-digit : (n d q : ℕ) → 0 < length (ended n d q)
+ended-some-digit n d zero = omega arith
+ended-some-digit n d (suc q) = simp length-append (omega arith)
+
+pub decimal-some : (x : ℕ) → 0 < length (decimal x)
+unfolding decimal
+decimal-some x = ended-some-digit 9 (48 + x % 10) (x / 10)
+
 pub length-digit : (x : ℕ) → x < 10 → length (decimal x) ≡ 1
 length-digit x h = ap length (decimal-digit x h)
 
 pub length-more : (x : ℕ) → 10 ≤ x → x < 2 ^ 32 → length (decimal x) ≡ length (decimal (x / 10)) + 1
 length-more x h k = simp length-append at (ap length (decimal-more x h k))
+
+length-two-by : (x : ℕ) (b : Bool) → ltb x 10 ≡ b → x < 100 → length (decimal x) ≤ 2
+length-two-by x true e h = omega (arith, length-digit x (ltb-true x 10 e))
+length-two-by x false e h =
+    let k : 10 ≤ x = ltb-false x 10 e in
+    omega (arith, length-more x k (omega arith), length-digit (x / 10) (omega arith))
+
+pub length-two : (x : ℕ) → x < 100 → length (decimal x) ≤ 2
+length-two x h = length-two-by x (ltb x 10) refl h

@@ -1,5 +1,5 @@
 pub mod Decimal
 pub mod Putting
-mod Numbers
-mod Reading
+pub mod Numbers
+pub mod Reading
 pub mod Claims

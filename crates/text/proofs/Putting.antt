@@ -1,11 +1,11 @@
 -- One piece of text put behind another, and a line made of pieces.
-use mathlib.Core.Path.{_≡_, sym, ap, ap₂, _∙_}
-use mathlib.Core.List.{List, _++_, append-assoc}
+use mathlib.Core.Path.{_≡_, refl, sym, ap, ap₂, _∙_}
+use mathlib.Core.List.{List, [], _++_, append-nil, append-assoc}
 use Prim.Native.Nat.{ℕ, _+_, _-_, _≤_}
 use native.Mathlib.Omega.{arith}
 use lib.ListN.{length, take, drop, length-append, take-append-drop}
 use lib.Seq.{drop-drop}
-use Rattle.text.specs.Lines.{Put, Lined}
+use Rattle.text.specs.Lines.{Put, LinedIn}
 
 -- lists that agree from i on agree from any later place on
 pub drop-later : (i r : ℕ) (a b : List ℕ) → i ≤ r → drop i a ≡ drop i b → drop r a ≡ drop r b
@@ -27,8 +27,15 @@ module _ {before middle after : List ℕ} {at i r m n : ℕ} {x y : List ℕ} wh
 pub wider : {before after : List ℕ} {at r m n : ℕ} {x : List ℕ} → m ≤ n → Put before after at r m x → Put before after at r n x
 wider h p = record { count = p .count; within = omega arith; text = p .text; rest = p .rest }
 
-pub lined : {before after : List ℕ} {r m : ℕ} {x : List ℕ} → length after ≡ 128 → m ≤ 128 → Put before after 0 r m x → Lined before after r x
-lined {before} {after} {r} h k p = record {
+-- as many bytes as there are, however many were allowed
+pub sized : {before after : List ℕ} {at r m n : ℕ} {x : List ℕ} → length x ≤ n → Put before after at r m x → Put before after at r n x
+sized h p = record { count = p .count; within = omega (arith, p .count); text = p .text; rest = p .rest }
+
+pub nothing : {before : List ℕ} {at n : ℕ} → Put before before at at n []
+nothing {before} {at} = record { count = omega arith; within = omega arith; text = sym (append-nil (take at before)); rest = refl }
+
+pub lined : {size : ℕ} {before after : List ℕ} {r m : ℕ} {x : List ℕ} → length after ≡ size → m ≤ size → Put before after 0 r m x → LinedIn size before after r x
+lined {size} {before} {after} {r} h k p = record {
   room = h;
   fits = omega arith;
   count = omega (arith, p .count);

@@ -1,8 +1,8 @@
 -- The digits of a number say that number.
 use mathlib.Core.Path.{_≡_, refl, ap, ap₂, subst, _∙_}
-use mathlib.Core.Bool.{Bool, true, false, _&&_}
+use mathlib.Core.Bool.{Bool, true, _&&_}
 use mathlib.Core.List.{List, [], _∷_, _++_}
-use Prim.Native.Nat.{ℕ, zero, suc, _+_, _-_, _*_, _/_, _%_, _^_, _≤_, _<_}
+use Prim.Native.Nat.{ℕ, zero, suc, _+_, _-_, _*_, _/_, _%_, _^_, _<_}
 use native.Mathlib.Nat.{pow-suc}
 use native.Mathlib.Omega.{arith}
 use borrow.Author.Tests.{lt-ltb, le-leb}
@@ -52,6 +52,10 @@ digits-say zero x h =
 digits-say (suc n) x h =
     let g : x < 10 ^ suc n * 10 = rw (pow-suc 10 (suc n)) at h in
     subst (Says (digits (suc (suc n)) x)) (omega arith) (ended-says (suc n) (x % 10) (x / 10) (omega arith) (λ k. digits-say n (x / 10) (omega arith)))
+
+pub decimal-digits : (x : ℕ) → x < 2 ^ 32 → allDigits (decimal x) ≡ true
+unfolding decimal
+decimal-digits x h = digits-say 9 x (omega arith) .digits
 
 pub decimal-read : (x : ℕ) → x < 2 ^ 32 → numberIn (decimal x) ≡ Number x
 unfolding decimal

@@ -17,19 +17,15 @@ decimal x = digits 10 x
 abbrev pub field : ℕ → ℕ → List ℕ
 field x end = decimal x ++ end ∷ []
 
+-- a number, a colon and a space
+abbrev pub label : ℕ → List ℕ
+label x = field x 58 ++ (32 ∷ [])
+
 -- numbers with single spaces between them, and a newline
 abbrev pub line : List ℕ → List ℕ
 line [] = 10 ∷ []
 line (x ∷ []) = field x 10
 line (x ∷ y ∷ xs) = field x 32 ++ line (y ∷ xs)
-
--- `refused`, number, place
-abbrev pub refusedLine : ℕ → ℕ → List ℕ
-refusedLine number place = 114 ∷ 101 ∷ 102 ∷ 117 ∷ 115 ∷ 101 ∷ 100 ∷ 32 ∷ line (number ∷ place ∷ [])
-
--- issuer, name, set, from, to
-abbrev pub intervalLine : ℕ → ℕ → ℕ → ℕ → List ℕ
-intervalLine role set from to = line (role / 32 ∷ role % 32 ∷ set ∷ from ∷ to ∷ [])
 
 -- The bytes, at most so many, stand between the places `at` and r of a buffer; what stood before `at` and from r on still does.
 pub record Put (before after : List ℕ) (at r most : ℕ) (bytes : List ℕ) : Type 0 where
@@ -38,9 +34,13 @@ pub record Put (before after : List ℕ) (at r most : ℕ) (bytes : List ℕ) : 
   pub text : take r after ≡ take at before ++ bytes
   pub rest : drop r after ≡ drop r before
 
--- a line of r bytes, and from r on what stood there: all 128 bytes are fixed
-pub record Lined (before after : List ℕ) (r : ℕ) (bytes : List ℕ) : Type 0 where
-  pub room : length after ≡ 128
-  pub fits : r ≤ 128
+-- a line of r bytes in a buffer of so many, and from r on what stood there: all bytes are fixed
+pub record LinedIn (size : ℕ) (before after : List ℕ) (r : ℕ) (bytes : List ℕ) : Type 0 where
+  pub room : length after ≡ size
+  pub fits : r ≤ size
   pub count : r ≡ length bytes
   pub line : after ≡ bytes ++ drop r before
+
+-- in a buffer of 128 bytes
+abbrev pub Lined : List ℕ → List ℕ → ℕ → List ℕ → Type 0
+Lined before after r bytes = LinedIn 128 before after r bytes

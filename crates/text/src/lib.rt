@@ -1,10 +1,9 @@
-// Lines of text in a buffer of 128 bytes, and numbers in decimal. A function that writes a line returns how many bytes it has, and leaves
-// the bytes after it as they were.
+// Pieces of text in a buffer, and numbers in decimal.
 ghost use mathlib.Core.Path.{_≡_};
 ghost use mathlib.Core.List.{[], _∷_};
 ghost use Prim.Native.Nat.{_+_, _%_, _≤_, _<_};
 ghost use lib.ListN.{length};
-ghost use Rattle.text.specs.Lines.{Put, Lined, decimal, field, line, refusedLine, intervalLine};
+ghost use Rattle.text.specs.Lines.{Put, decimal, field};
 ghost use Rattle.text.specs.Numbers.{digit, numberIn};
 
 // The number that bytes say in decimal, if they do.
@@ -27,6 +26,14 @@ pub fn put_bytes(out: &mut [u8], at: usize, bytes: &[u8]) -> usize
     at + i
 }
 
+pub fn put_byte(out: &mut [u8], at: usize, b: u8) -> usize
+    requires { ⌜ at < length (now out) ⌝ }
+    ensures { λ r. ⌜ Put (now (out .entry)) (now (out .exit)) at r 1 (b ∷ []) ⌝ }
+{
+    out[at] = b;
+    at + 1
+}
+
 // A number, of at most ten digits.
 pub fn put_decimal(out: &mut [u8], at: usize, x: u32) -> usize
     requires { ⌜ at + 10 ≤ length (now out) ⌝ }
@@ -42,41 +49,6 @@ pub fn put_field(out: &mut [u8], at: usize, x: u32, end: u8) -> usize
 {
     let next = put_decimal(out, at, x);
     put_byte(out, next, end)
-}
-
-// One number.
-pub fn number_line(out: &mut [u8; 128], x: u32) -> usize
-    ensures { λ r. ⌜ Lined (now (out .entry)) (now (out .exit)) r (line (x ∷ [])) ⌝ }
-{
-    put_field(out, 0, x, b'\n')
-}
-
-// Two numbers.
-pub fn pair_line(out: &mut [u8; 128], x: u32, y: u32) -> usize
-    ensures { λ r. ⌜ Lined (now (out .entry)) (now (out .exit)) r (line (x ∷ y ∷ [])) ⌝ }
-{
-    let next = put_field(out, 0, x, b' ');
-    put_field(out, next, y, b'\n')
-}
-
-// `refused`, number, place.
-pub fn refused_line(out: &mut [u8; 128], number: u32, place: u32) -> usize
-    ensures { λ r. ⌜ Lined (now (out .entry)) (now (out .exit)) r (refusedLine number place) ⌝ }
-{
-    let number_at = put_bytes(out, 0, b"refused ");
-    let place_at = put_field(out, number_at, number, b' ');
-    put_field(out, place_at, place, b'\n')
-}
-
-// Issuer, name, set, from, to.
-pub fn interval_line(out: &mut [u8; 128], role: u32, set: u32, from: u32, to: u32) -> usize
-    ensures { λ r. ⌜ Lined (now (out .entry)) (now (out .exit)) r (intervalLine role set from to) ⌝ }
-{
-    let name_at = put_field(out, 0, role / 32, b' ');
-    let set_at = put_field(out, name_at, role % 32, b' ');
-    let from_at = put_field(out, set_at, set, b' ');
-    let to_at = put_field(out, from_at, from, b' ');
-    put_field(out, to_at, to, b'\n')
 }
 
 // The number of up to 32 bits that bytes say in decimal. Leading zeros are allowed.
@@ -100,14 +72,6 @@ pub fn parse(bytes: &[u8]) -> Parsed
         i += 1;
     }
     Parsed::Number(x as u32)
-}
-
-fn put_byte(out: &mut [u8], at: usize, b: u8) -> usize
-    requires { ⌜ at < length (now out) ⌝ }
-    ensures { λ r. ⌜ Put (now (out .entry)) (now (out .exit)) at r 1 (b ∷ []) ⌝ }
-{
-    out[at] = b;
-    at + 1
 }
 
 // The last digit of x.

@@ -15,7 +15,7 @@ use Rattle.waiting.specs.declared.Offer.{Offer}
 use Rattle.waiting.specs.declared.Pair.{Pair}
 use Rattle.waiting.specs.declared.Queue.{Queue}
 use Rattle.waiting.specs.Pairs.{roleOf, Paired, WithPair, Pairing, pairSet, pairSpans, pairAt}
-use Rattle.waiting.specs.Waiting.{Linked, Waiting, Waits, United, Gathers}
+use Rattle.waiting.specs.Waiting.{RoleLists, Waiting, Waits, United, Gathers}
 use Rattle.waiting.proofs.Giving.{set-low, spans-paired, spans-all, pair-one, one-pair}
 use Rattle.waiting.proofs.Linking.{linked-lower, linked-on, from-back, from-both}
 
@@ -60,10 +60,10 @@ module _ {keys done : List ℕ} {o : Offer} {start : ℕ} where
         subst (λ (y : ℕ). Gathers keys done o start w (record { count = y; at = c })) e
         (gathered (λ _. let l = k .on nz .0 in let ne : c ≡ start → ⊥ = λ q. omega (arith, k .none q) in omega arith))
 
-    pub walked-lower : (links : List ℕ) {d : ℕ} → Linked keys links start → (c ≡ 0 → ⊥) → d ≡ getD links (c - 1) 0 → d < c
+    pub walked-lower : (links : List ℕ) {d : ℕ} → RoleLists keys links start → (c ≡ 0 → ⊥) → d ≡ getD links (c - 1) 0 → d < c
     walked-lower links {d} ln nz is = linked-lower keys links ln c d nz (k .on nz .0) is
 
-  module _ (links : List ℕ) {w w′ : List ℕ} {q q′ : Queue} {x : Pair} {c d : ℕ} (ln : Linked keys links start) (low : o .set < 4294967296) (k : Walked keys done o start w (q .count) c) (nz : c ≡ 0 → ⊥) (is : d ≡ getD links (c - 1) 0) (e : x ≡ pairAt keys done o (c - 1)) (u : United w q x w′ q′) where
+  module _ (links : List ℕ) {w w′ : List ℕ} {q q′ : Queue} {x : Pair} {c d : ℕ} (ln : RoleLists keys links start) (low : o .set < 4294967296) (k : Walked keys done o start w (q .count) c) (nz : c ≡ 0 → ⊥) (is : d ≡ getD links (c - 1) 0) (e : x ≡ pairAt keys done o (c - 1)) (u : United w q x w′ q′) where
     -- one entry further
     pub walked-next : Walked keys done o start w′ (q′ .count) d
     walked-next =

@@ -10,17 +10,17 @@ use Rattle.store.proofs.Chains.{equal-or-not, latest-some, latest-none}
 use Rattle.heads.specs.Gaining.{Spanned}
 use Rattle.heads.specs.Walks.{On, From}
 use Rattle.waiting.specs.Pairs.{roleOf}
-use Rattle.waiting.specs.Waiting.{Linked}
+use Rattle.waiting.specs.Waiting.{RoleLists}
 
-pub stored-linked : {keys slots links : List ℕ} {n : ℕ} → Stored keys slots links n → Linked keys links n
-stored-linked {keys} {links = links} st i l =
+pub stored-lists : {keys slots links : List ℕ} {n : ℕ} → Stored keys slots links n → RoleLists keys links n
+stored-lists {keys} {links = links} st i l =
     let e = st .chained .prevs i l in
     (λ nz. latest-some (roleOf keys) (roleOf keys i) i (getD links i 0 - 1) (sym e ∙ omega arith), λ j a b. latest-none (roleOf keys) (roleOf keys i) i j (omega arith) b)
 
-pub linked-less : (keys links : List ℕ) {n : ℕ} (start : ℕ) → start ≤ n → Linked keys links n → Linked keys links start
-linked-less keys links start l ln i k = ln i (omega arith)
+pub lists-less : (keys links : List ℕ) {n : ℕ} (start : ℕ) → start ≤ n → RoleLists keys links n → RoleLists keys links start
+lists-less keys links start l ln i k = ln i (omega arith)
 
-module _ (keys links : List ℕ) {start : ℕ} (ln : Linked keys links start) (c d : ℕ) (nz : c ≡ 0 → ⊥) (low : c - 1 < start) (is : d ≡ getD links (c - 1) 0) where
+module _ (keys links : List ℕ) {start : ℕ} (ln : RoleLists keys links start) (c d : ℕ) (nz : c ≡ 0 → ⊥) (low : c - 1 < start) (is : d ≡ getD links (c - 1) 0) where
   -- the place before c comes before it
   pub linked-lower : d < c
   linked-lower = go (equal-or-not d 0)

@@ -15,8 +15,8 @@ use Rattle.waiting.specs.declared.Gathered.{Gathered}
 use Rattle.waiting.specs.Pairs.{roleOf, WithPair, Pairing}
 
 -- the entries below n are in lists by role
-abbrev pub Linked : List ℕ → List ℕ → ℕ → Type 0
-Linked keys links n = (i : ℕ) → i < n → On (roleOf keys) (roleOf keys i) i (getD links i 0) × ((j : ℕ) → getD links i 0 ≤ j → j < i → roleOf keys j ≡ roleOf keys i → ⊥)
+abbrev pub RoleLists : List ℕ → List ℕ → ℕ → Type 0
+RoleLists keys links n = (i : ℕ) → i < n → On (roleOf keys) (roleOf keys i) i (getD links i 0) × ((j : ℕ) → getD links i 0 ≤ j → j < i → roleOf keys j ≡ roleOf keys i → ⊥)
 
 -- the list has room, and at most 64 sets wait
 pub record Waiting (w : List ℕ) (count : ℕ) : Type 0 where

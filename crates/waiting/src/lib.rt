@@ -3,7 +3,7 @@ ghost use mathlib.Core.Path.{_≡_};
 ghost use Prim.Native.Nat.{_<_, _≤_};
 ghost use lib.ListN.{length};
 ghost use Rattle.waiting.specs.Pairs.{pairSet, pairSpans, pairAt};
-ghost use Rattle.waiting.specs.Waiting.{Linked, Waiting, Placed, United, Gathers, Settled};
+ghost use Rattle.waiting.specs.Waiting.{RoleLists, Waiting, Placed, United, Gathers, Settled};
 
 // A set in some spans that is paired by a kind.
 pub struct Offer {
@@ -62,7 +62,7 @@ pub fn gather(
     o: Offer,
     start: usize,
 ) -> Gathered
-    requires { ⌜ (length (now waiting) ≡ 257) × (o .set < 4294967296) × (start ≤ 1024) × Linked (now keys) (now links) start ⌝ }
+    requires { ⌜ (length (now waiting) ≡ 257) × (o .set < 4294967296) × (start ≤ 1024) × RoleLists (now keys) (now links) start ⌝ }
     ensures { λ r. ⌜ Gathers (now (keys .entry)) (now (done .entry)) o start (now (waiting .exit)) r ⌝ }
 {
     let mut q = Queue { count: 0, last: 0 };
@@ -127,7 +127,7 @@ fn search(waiting: &mut [u64; 257], count: usize, set: u64) -> usize
     let mut p = 128;
     let mut left: usize = 33;
     while left != 0 {
-        let c = whole(waiting[p]) as usize;
+        let c = widths::whole(waiting[p]) as usize;
         if count <= c {
             waiting[p] = count as u64;
             return count;
@@ -162,11 +162,4 @@ fn pair_set(kind: u32, x: u64, y: u64) -> u64
         return y;
     }
     x | y
-}
-
-// The number itself; a number of the list is below 2 ^ 64.
-fn whole(x: u64) -> u64
-    ensures { λ r. ⌜ (r ≡ x) × (x < 18446744073709551616) ⌝ }
-{
-    x
 }

@@ -9,18 +9,16 @@ use borrow.Author.Tests.{eq-eqb, ne-eqb}
 use Rattle.meaning.specs.Lists.{if}
 use Rattle.meaning.proofs.Tests.{and-left, and-right}
 use Rattle.file.specs.Format.{N, bodyIn}
-use Rattle.file.specs.Refusals.{done}
-use Rattle.file.specs.Reading.{headRows, credentialRows, reading}
+use Rattle.file.specs.Refusals.{done, refused}
+use Rattle.file.specs.Reading.{headRows, credentialRows, reading, read}
 use Rattle.file.specs.Values.{clear, readable, foundIn, foundOf}
 use Rattle.file.specs.declared.Found.{Found}
 use Rattle.file.specs.declared.Found.the-variants.{Credential, End}
 use Rattle.file.specs.declared.Credential as D
 use Rattle.file.proofs.First.{outcomeOf, first-refusal}
 use Rattle.file.proofs.Sizes.{headed}
-use Rattle.ends.proofs.Surveying.{reading-numbered}
-use Rattle.walker.specs.Walking.{opened, foundAt, nthOf, entryOut, entryIn}
-use Rattle.walker.specs.declared.Entry as E
-use Rattle.walker.specs.declared.Entry.the-variants as A
+use Rattle.survey.proofs.Surveying.{reading-numbered}
+use Rattle.walker.specs.Walking.{opened, foundAt, nthOf}
 
 -- a credential stands only below N, which is at most 256
 pub found-below : (f : List ℕ) (at number : ℕ) (c : D.Credential) → foundAt f at number ≡ Credential c → at < 256
@@ -41,18 +39,17 @@ found-below f at number c e = by-number (eqb number 0) e
     by-number false e = let z : _≡_ {A = ℕ} 0 1 = cc in absurd (omega arith)
 
 module _ (f : List ℕ) (at : ℕ) where
-  entry-read : entryIn f at ≡ entryOut (outcomeOf (opened f) (foundIn f at))
+  by-refusal : read f (foundIn f at) ≡ outcomeOf (opened f) (foundIn f at)
   unfolding reading
-  entry-read = ap entryOut (first-refusal (reading f) (foundIn f at) (reading-numbered f))
+  by-refusal = first-refusal (reading f) (foundIn f at) (reading-numbered f)
 
-  pub entry-refused : (opened f .number ≡ 0 → ⊥) → entryIn f at ≡ A.Refused (opened f .number) (opened f .place)
-  entry-refused h = entry-read ∙ rw (ne-eqb (opened f .number) 0 h) refl
+  -- a refused file's answer is its refusal
+  pub entry-refused : (opened f .number ≡ 0 → ⊥) → read f (foundIn f at) ≡ refused (opened f .number) (opened f .place)
+  entry-refused h = by-refusal ∙ rw (ne-eqb (opened f .number) 0 h) refl
 
-  nth-found : opened f .number ≡ 0 → nthOf f at ≡ foundIn f at
-  nth-found h = rw (eq-eqb (opened f .number) 0 h) refl
-
-  found-read : opened f .number ≡ 0 → outcomeOf (opened f) (foundIn f at) ≡ done (foundIn f at)
-  found-read h = rw (eq-eqb (opened f .number) 0 h) refl
-
-  pub entry-found : opened f .number ≡ 0 → (x : Found) → nthOf f at ≡ x → entryIn f at ≡ entryOut (done x)
-  entry-found h x e = entry-read ∙ ap entryOut (found-read h) ∙ ap (λ (y : Found). entryOut (done y)) (sym (nth-found h) ∙ e)
+  -- another's is what `nth` finds
+  pub entry-found : opened f .number ≡ 0 → (x : Found) → nthOf f at ≡ x → read f (foundIn f at) ≡ done x
+  entry-found h x e =
+      let z = eq-eqb (opened f .number) 0 h in
+      let n : nthOf f at ≡ foundIn f at = rw z refl in
+      by-refusal ∙ ap (λ (b : Bool). if b (done (foundIn f at)) (refused (opened f .number) (opened f .place))) z ∙ ap (λ (y : Found). done y) (sym n ∙ e)

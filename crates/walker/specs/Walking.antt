@@ -48,11 +48,8 @@ refusalIn w = record { number = w .number; place = w .place }
 abbrev pub nthOf : List ℕ → ℕ → Found
 nthOf f at = foundAt f at (opened f .number)
 
--- document 01's number and place where a file is refused; otherwise what stands at the place
-abbrev pub entryOut : Outcome Found → E.Entry
-entryOut (done (Credential c)) = N.Credential c
-entryOut (done End) = N.End
-entryOut (refused n p) = N.Refused n p
-
-abbrev pub entryIn : List ℕ → ℕ → E.Entry
-entryIn f at = entryOut (read f (foundIn f at))
+-- an entry as an outcome: what stands at the place, or document 01's number and place
+abbrev pub saysEntry : E.Entry → Outcome Found
+saysEntry (N.Credential c) = done (Credential c)
+saysEntry N.End = done End
+saysEntry (N.Refused n p) = refused n p

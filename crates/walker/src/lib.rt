@@ -1,6 +1,8 @@
 // Walking a file's credentials: thin functions over a struct that holds the caller's bytes and a place.
 ghost use mathlib.Core.Path.{_≡_};
-ghost use Rattle.walker.specs.Walking.{opened, walkerOf, placeAfter, nextOf, foundAt, credentialOf, refusalIn, nthOf, entryIn};
+ghost use Rattle.file.specs.Reading.{read};
+ghost use Rattle.file.specs.Values.{foundIn};
+ghost use Rattle.walker.specs.Walking.{opened, walkerOf, placeAfter, nextOf, foundAt, credentialOf, refusalIn, nthOf, saysEntry};
 
 // The credential at place `at` of the file. A refused walker carries the refusal's number and place, and is at its end.
 pub struct Walker<'a> {
@@ -62,7 +64,7 @@ pub fn refusal<'a>(w: Walker<'a>) -> file::Refusal
 
 // The credential at a place of a file, for callers that hold no walker.
 pub fn entry_at(file: &[u8], at: usize) -> Entry
-    ensures { λ r. ⌜ r ≡ entryIn (now (file .entry)) at ⌝ }
+    ensures { λ r. ⌜ saysEntry r ≡ read (now (file .entry)) (foundIn (now (file .entry)) at) ⌝ }
 {
     let s = open(file);
     if s.number != 0 {
@@ -82,8 +84,8 @@ fn open(file: &[u8]) -> file::Refusal
     ensures { λ r. ⌜ r ≡ opened (now (file .entry)) ⌝ }
 {
     let mut policy = policy::room();
-    let mut ends = ends::no_ends();
-    let summary = ends::survey(&mut policy, &mut ends, file);
+    let mut ends = survey::no_ends();
+    let summary = survey::survey(&mut policy, &mut ends, file);
     file::Refusal {
         number: summary.number,
         place: summary.place,
@@ -96,7 +98,7 @@ fn found_at(file: &[u8], at: usize, number: u32) -> file::Found
     if number != 0 {
         return file::Found::End;
     }
-    file::read_credential(file, at)
+    reader::read_credential(file, at)
 }
 
 fn place_after(file: &[u8], at: usize, number: u32) -> usize

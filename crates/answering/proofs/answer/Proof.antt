@@ -16,12 +16,12 @@ marking w = w .before .before .before .before .before .before
 needed-requires : tie.Need-needed-requires
 needed-requires c κs =
     let h = c .before .before .before .before .before .before .pre in
-    (h .0 .1, omega arith, λ i l. h .0 .2 i (omega arith))
+    (h .0 .1, omega arith, h .0 .2)
 
 write-steps-requires : tie.Need-write-steps-requires
 write-steps-requires c κs =
     let h = c .before .before .before .before .before .before .before .before .before .before .before .before .pre in
-    ((h .0 .0, h .0 .1, omega arith, (λ i l. h .0 .2 i (omega arith)), c .before .before .before .before .before .needed .ensures), omega (arith, h .1))
+    ((h .0 .0, h .0 .1, omega arith, h .0 .2, c .before .before .before .before .before .needed .ensures), omega (arith, h .1))
 
 clear-from-requires : tie.Need-clear-from-requires
 clear-from-requires c κs =
@@ -48,7 +48,7 @@ returns c =
     let h = entry w .pre in
     let k = w .write-steps .kept in
     let z = c .before .before .before .before .before .before .before .before .clear-from .ensures in
-    answered (a .keys .now) (a .notes .now) (a .n) (a .x) (length (a .credential .now)) (marking w .needed .result) (h .1 .1 .0) (h .0 .2) (marking w .needed .ensures) (w .write-steps .ensures)
+    answered (a .keys .now) (a .notes .now) (a .x) (length (a .credential .now)) (marking w .needed .result) (h .0 .2) (marking w .needed .ensures) (w .write-steps .ensures)
     (omega arith) (omega arith) (omega arith) (omega arith) (z .0) (z .1) (z .2) (z .3)
 
 pub answer-spec : {M : Type 1} → statement M

@@ -23,6 +23,9 @@ word-of-requires c κs = search needs
 wide-requires : tie.Need-wide-requires
 wide-requires c κs = search needs
 
+cast-credential : tie.Need-cast-credential
+cast-credential c = search needs
+
 mul-credential : tie.Need-mul-credential
 mul-credential c = search needs
 
@@ -100,7 +103,7 @@ returns-2 c =
     let test = begun .before .before in
     let a = test .before .before .before .before .before .before .before .before .args in
     turn-taken (a .keys .now) (a .notes .now) (a .i) (a .k) (a .numbers .now) (a .credential .now) (a .first .now) (a .second .now) (a .sets .now) (begun .wide .result) (first .cited .result) (second .cited2 .result) (test .if1 .left)
-    (begun .wide .ensures ∙ begun .before .word-of .ensures)
+    (begun .wide .ensures .0 ∙ begun .before .word-of .ensures)
     (first .cited .ensures ∙ ap (citedIn (a .numbers .now)) (first .before .word-of2 .ensures))
     (second .cited2 .ensures ∙ ap (citedIn (a .numbers .now)) (second .before .word-of3 .ensures))
 
@@ -113,6 +116,7 @@ write-step-spec =
     returns
     word-of-requires
     wide-requires
+    cast-credential
     mul-credential
     slice-write-credential
     word-of-requires-2

@@ -1,7 +1,7 @@
 -- `check_bytes::number_of` meets its contract.
 use mathlib.Core.Path.{sym, ap, _∙_}
 use Rattle.checking.specs.declared.Checked.{Checked}
-use Rattle.checking.specs.Checking.{says}
+use Rattle.checking.specs.Checking.{saysChecked}
 use Rattle.replies.specs.Interface.{word}
 use borrow.Author.Needs.{needs}
 use Rattle.check_bytes.proofs.number_of.Statement.{statement}
@@ -23,7 +23,7 @@ returns : tie.Need-returns
 returns c = search needs
 
 returns-2 : tie.Need-returns-2
-returns-2 c = c .refusal .ensures ∙ sym (ap (λ (x : Checked). word (λ n. n) (says x)) (c .before .before .answer2 .given .1))
+returns-2 c = c .refusal .ensures ∙ sym (ap (λ (x : Checked). word (λ n. n) (saysChecked x)) (c .before .before .answer2 .given .1))
 
 pub number-of-spec : {M : Type 1} → statement M
 number-of-spec =

@@ -30,11 +30,17 @@ room-requires c κs = search needs
 judge-requires : tie.Need-judge-requires
 judge-requires c κs = search needs
 
+refused-requires : tie.Need-refused-requires
+refused-requires c κs = search needs
+
 returns : tie.Need-returns
-returns c = let s = c .before .before .before .before .before .before .before .before .before .before in request-refused (s .args .file .now) (q s) (t s) (s .args .steps) (asked (c .before .before .judge .result)) (c .before .before .judge .ensures .refusal) (c .if1 .taken)
+returns c = let s = c .before .before .before .before .before .before .before .before .before .before .before in c .refused .ensures ∙ request-refused (s .args .file .now) (q s) (t s) (s .args .steps) (asked (c .before .before .before .judge .result)) (c .before .before .before .judge .ensures .refusal) (c .before .if1 .taken)
+
+refused-requires-2 : tie.Need-refused-requires-2
+refused-requires-2 c κs = search needs
 
 returns-2 : tie.Need-returns-2
-returns-2 c = let s = c .before .before .before .before .before .before .before .before .before .before .before in count-refused (s .args .file .now) (q s) (t s) (s .args .steps) (asked (c .before .before .before .judge .result)) (c .before .before .before .judge .ensures .refusal) (c .before .if1 .left) (not-true _ (c .if2 .taken))
+returns-2 c = let s = c .before .before .before .before .before .before .before .before .before .before .before .before in c .refused2 .ensures ∙ count-refused (s .args .file .now) (q s) (t s) (s .args .steps) (asked (c .before .before .before .before .judge .result)) (c .before .before .before .before .judge .ensures .refusal) (c .before .before .if1 .left) (not-true _ (c .before .if2 .taken))
 
 room-requires-2 : tie.Need-room-requires-2
 room-requires-2 c κs = search needs
@@ -84,7 +90,9 @@ check-spec =
     (tie.spec
     room-requires
     judge-requires
+    refused-requires
     returns
+    refused-requires-2
     returns-2
     room-requires-2
     room-requires-3

@@ -1,4 +1,5 @@
 -- `checking::conclude` meets its contract: by how far the walk came, and by what the last step shows.
+use mathlib.Core.Path.{_∙_}
 use mathlib.Core.List.{List}
 use borrow.Author.Tests.{not-true, not-false}
 use Rattle.meaning.specs.Credentials.{Credential}
@@ -21,11 +22,14 @@ t s = stepLists (s .args .credential .now) (s .args .first .now) (s .args .secon
 walk-requires : tie.Need-walk-requires
 walk-requires c κs = search needs
 
-cast-t18 : tie.Need-cast-t18
-cast-t18 c = search needs
+cast-refused : tie.Need-cast-refused
+cast-refused c = search needs
+
+refused-requires : tie.Need-refused-requires
+refused-requires c κs = search needs
 
 returns : tie.Need-returns
-returns c = let s = c .before .before .before .before .before .before .before .before in walk-broken (cs s) (q s) (t s) (s .args .steps) (c .before .walk .ensures) (c .if1 .taken)
+returns c = let s = c .before .before .before .before .before .before .before .before .before in c .refused .ensures ∙ walk-broken (cs s) (q s) (t s) (s .args .steps) (c .before .before .walk .ensures) (c .before .if1 .taken)
 
 sub-last : tie.Need-sub-last
 sub-last c = search needs
@@ -42,9 +46,12 @@ mul-if2-2 c = search needs
 shared-slice-read-if2 : tie.Need-shared-slice-read-if2
 shared-slice-read-if2 c = search needs
 
+refused-requires-2 : tie.Need-refused-requires-2
+refused-requires-2 c κs = search needs
+
 returns-2 : tie.Need-returns-2
-returns-2 c = let s = c .before .before .before .before .before .before .before .before .before .before .before in
-    walk-other (cs s) (q s) (t s) (s .args .steps) (c .before .before .before .before .walk .ensures) (s .pre .1) (c .before .before .before .if1 .left) (not-true _ (c .if2 .taken))
+returns-2 c = let s = c .before .before .before .before .before .before .before .before .before .before .before .before in
+    c .refused2 .ensures ∙ walk-other (cs s) (q s) (t s) (s .args .steps) (c .before .before .before .before .before .walk .ensures) (s .pre .1) (c .before .before .before .before .if1 .left) (not-true _ (c .before .if2 .taken))
 
 mul-t19 : tie.Need-mul-t19
 mul-t19 c = search needs
@@ -61,13 +68,15 @@ conclude-spec =
     tie.close
     (tie.spec
     walk-requires
-    cast-t18
+    cast-refused
+    refused-requires
     returns
     sub-last
     mul-if2
     element-copy-out-if2
     mul-if2-2
     shared-slice-read-if2
+    refused-requires-2
     returns-2
     mul-t19
     element-copy-out-t22

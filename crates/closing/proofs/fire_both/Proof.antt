@@ -1,153 +1,138 @@
--- `closing::fire_both` adds what both families of the entry give.
-use mathlib.Core.Path.{ap}
-use mathlib.Core.Logic.{inl, inr}
-use Prim.Native.Nat.{ℕ, _+_, _%_, _<_}
+-- `closing::fire_both` adds what both families of the entry give. The loop is at one of them, and what the one before it gives was added.
+use mathlib.Core.Path.{_≡_, ap, _∙_}
+use mathlib.Core.Logic.{_⊎_, inl, inr, ⊎-elim}
+use Prim.Native.Nat.{ℕ, _+_, _-_, _%_, _≤_, _<_}
 use native.Mathlib.Omega.{arith}
 use borrow.Author.Needs.{needs}
+use lib.ListN.{getD}
+use Rattle.store.specs.Entries.{roleIn}
+use Rattle.heads.specs.Gaining.{Gains}
+use Rattle.premises.specs.Combining.{InFamily}
+use Rattle.firing.specs.Firing.{Fires, FromFamily}
 use Rattle.firing.proofs.Firings.{family-low, family-after, firing-after}
-use Rattle.closing.proofs.Families.{held-after, no-bodies, gains-first, gains-both}
+use Rattle.closing.specs.Giving.{FromEntry}
+use Rattle.closing.proofs.Families.{Earlier, held-after, no-bodies, families-start, families-over, families-end, families-next}
 use Rattle.closing.proofs.fire_both.Statement.{statement}
 use Rattle.closing.proofs.fire_both.Tie as tie
 
-abbrev start : tie.After-role-of → tie.Start
-start a = a .before .before
+abbrev Inv-loop : tie.InvT-loop
+Inv-loop keys₀ spans₀ slots₀ links₀ notes₀ done codes valid lists n t limit e role name r₀ family₀ keys spans slots links notes r family =
+    (r ≤ t .limit) × InFamily keys₀ (t .e) family × Gains (t .limit) keys₀ spans₀ notes₀ n (Earlier codes valid lists keys₀ done n (t .e) (t .spans) family) (FromEntry codes lists keys₀ done n (t .e)) keys spans slots links notes r
 
--- what was known before the first bodies of both families were asked for
-abbrev asked : tie.After-first-body2 → tie.After-role-of
-asked b = b .before .before
+abbrev μ-loop : tie.MeasureT-loop
+μ-loop keys₀ spans₀ slots₀ links₀ notes₀ done codes valid lists n t limit e role name r₀ family₀ keys spans slots links notes r family = 1024 - family
 
--- and before the first family fired
-abbrev first : tie.After-fire2 → tie.After-first-body2
-first f = f .before .before .before .before .before .before .before
+abbrev start : tie.At-loop Inv-loop μ-loop → tie.Start Inv-loop μ-loop
+start l = l .before .before .before
 
-role-low : (a : tie.After-role-of) → a .role-of .result < 1056
-role-low a =
-    let s = start a in
-    let e = s .args .t .e in
-    family-low (s .args .keys .now) e (a .role-of .result) (s .pre .0 .kept .stored .roles e (s .pre .1 .1 .1 .low)) (inl (a .role-of .ensures))
+-- the entry's role
+abbrev own : tie.At-loop Inv-loop μ-loop → ℕ
+own l = roleIn (getD (start l .args .keys .now) (start l .args .t .e) 0)
 
-name-low : (role : ℕ) → 1024 + role % 32 < 1056
-name-low role = omega arith
+own-low : (l : tie.At-loop Inv-loop μ-loop) → own l < 1024
+own-low l = let s = start l in s .pre .0 .kept .stored .roles (s .args .t .e) (s .pre .1 .1 .1 .low)
 
-mul-role-of : tie.Need-mul-role-of
+name-is : (l : tie.At-loop Inv-loop μ-loop) → 1024 + l .before .role-of .result % 32 ≡ 1024 + own l % 32
+name-is l = ap (λ (x : ℕ). 1024 + x % 32) (l .before .role-of .ensures)
+
+low : (l : tie.At-loop Inv-loop μ-loop) → l .loop .family < 1056
+low l = let a = start l .args in family-low (a .keys .now) (a .t .e) (l .loop .family) (own-low l) (l .loop .inv .1)
+
+-- the family gave, or has no bodies
+gave : (c : tie.Joined1 Inv-loop μ-loop) →
+    let l = c .before .before in
+    let a = start l .args in
+    (c .if1 .r ≤ a .t .limit)
+    × Gains (a .t .limit) (l .loop .keys) (l .loop .spans) (l .loop .notes) (l .loop .r) (Fires (a .codes .now) (a .valid .now) (a .lists .now) (l .loop .keys) (a .done .now) (l .loop .r) (a .t .e) (a .t .spans) (l .loop .family)) (FromFamily (a .codes .now) (a .lists .now) (l .loop .keys) (a .done .now) (l .loop .r) (a .t .e) (l .loop .family)) (c .if1 .keys) (c .if1 .spans) (c .if1 .slots) (c .if1 .links) (c .if1 .notes) (c .if1 .r)
+gave c =
+    let f = c .before in
+    let l = f .before in
+    let v = l .loop .inv in
+    ⊎-elim
+    (λ w. rw (w .8, w .9, w .10, w .11, w .12, w .13) (w .7 .left, w .6 .ensures))
+    (λ w. rw (w .1, w .2, w .3, w .4, w .5, w .6) (v .0, no-bodies (start l .pre .1 .1 .0 .0) (v .2 .kept (v .0)) (v .0) (low l) (f .first-body .ensures) (w .0 .left)))
+    (c .if1 .came)
+
+-- a family that is not the name is the role
+first : (c : tie.Else3 Inv-loop μ-loop) → let l = c .before .before .before in l .loop .family ≡ own l
+first c = ⊎-elim (λ q. q) (λ q. absurd (c .if3 .left (omega (arith, q, name-is l)))) (l .loop .inv .1)
+  where
+    l : tie.At-loop Inv-loop μ-loop
+    l = c .before .before .before
+
+mul-role-of : tie.Need-mul-role-of Inv-loop μ-loop
 mul-role-of c = search needs
 
-element-copy-out-role-of : tie.Need-element-copy-out-role-of
+element-copy-out-role-of : tie.Need-element-copy-out-role-of Inv-loop μ-loop
 element-copy-out-role-of c = search needs
 
-role-of-requires : tie.Need-role-of-requires
-role-of-requires c κs = search needs
+role-of-requires : tie.Need-role-of-requires Inv-loop μ-loop
+role-of-requires c κs = tt
 
-add-name : tie.Need-add-name
+add-name : tie.Need-add-name Inv-loop μ-loop
 add-name c = search needs
 
-first-body-requires : tie.Need-first-body-requires
-first-body-requires c κs = role-low c
+loop-holds : tie.Need-loop-holds Inv-loop μ-loop
+loop-holds c =
+    let s = c .before .before in
+    let a = s .args in
+    let p = s .pre in
+    (p .1 .0 .0, inl (c .role-of .ensures), families-start (p .0) (a .t .e) (p .1 .1 .1 .low) (a .codes .now) (a .valid .now) (a .lists .now) (a .t .spans) (p .1 .0 .0) (c .role-of .ensures))
 
-first-body-requires-2 : tie.Need-first-body-requires-2
-first-body-requires-2 c κs = search needs
+first-body-requires : tie.Need-first-body-requires Inv-loop μ-loop
+first-body-requires c κs = low c
 
-returns : tie.Need-returns
-returns c =
-    let b = c .before .before in
-    let a = asked b in
-    let s = start a .args in
-    let p = start a .pre in
-    let few = p .1 .0 .0 in
-    let known = p .1 .1 .0 .0 in
-    gains-both (p .0) (p .1 .1 .1 .low) (s .codes .now) (s .valid .now) (s .lists .now) (a .role-of .ensures)
-    (no-bodies known (p .0 .kept) few (role-low a) (b .before .first-body .ensures) (c .before .if1 .taken)) few
-    (no-bodies known (p .0 .kept) few (name-low (a .role-of .result)) (b .first-body2 .ensures) (c .if2 .taken))
-
-fire-requires : tie.Need-fire-requires
+fire-requires : tie.Need-fire-requires Inv-loop μ-loop
 fire-requires c κs =
-    let a = asked (c .before .before .before .before .before .before .before) in
-    let p = start a .pre in
-    (p .0, (p .1 .0, (p .1 .1 .0, (p .1 .1 .1, inr (ap (λ (x : ℕ). 1024 + x % 32) (a .role-of .ensures))))))
-
-returns-2 : tie.Need-returns-2
-returns-2 c =
-    let t = c .before .before .before .before .before .before .before in
-    let b = t .before in
-    let a = asked b in
-    let s = start a .args in
-    let p = start a .pre in
-    let few = p .1 .0 .0 in
-    gains-both (p .0) (p .1 .1 .1 .low) (s .codes .now) (s .valid .now) (s .lists .now) (a .role-of .ensures)
-    (no-bodies (p .1 .1 .0 .0) (p .0 .kept) few (role-low a) (b .before .first-body .ensures) (t .if1 .taken)) few (c .fire .ensures)
-
-fire-requires-2 : tie.Need-fire-requires-2
-fire-requires-2 c κs =
-    let a = asked (c .before .before .before .before .before .before) in
-    let p = start a .pre in
-    (p .0, (p .1 .0, (p .1 .1 .0, (p .1 .1 .1, inl (a .role-of .ensures)))))
-
-returns-3 : tie.Need-returns-3
-returns-3 c =
-    let f = c .before in
-    let a = asked (first f) in
-    let s = start a .args in
-    let p = start a .pre in
-    gains-first (p .0) (p .1 .1 .1 .low) (s .codes .now) (s .valid .now) (s .lists .now) (a .role-of .ensures) (f .fire2 .ensures) (c .if3 .taken)
-
-returns-4 : tie.Need-returns-4
-returns-4 c =
-    let few = c .before .if3 .left in
-    let f = c .before .before in
-    let b = first f in
-    let a = asked b in
-    let s = start a .args in
-    let p = start a .pre in
-    let g = f .fire2 .ensures in
-    gains-both (p .0) (p .1 .1 .1 .low) (s .codes .now) (s .valid .now) (s .lists .now) (a .role-of .ensures) g few
-    (no-bodies (p .1 .1 .0 .0) (g .kept few) few (name-low (a .role-of .result)) (b .first-body2 .ensures) (c .if4 .taken))
-
-fire-requires-3 : tie.Need-fire-requires-3
-fire-requires-3 c κs =
-    let l = c .before .before .before .before .before .before in
-    let few = l .if3 .left in
-    let f = l .before in
-    let a = asked (first f) in
-    let p = start a .pre in
-    let t = p .1 .1 .1 in
-    let g = f .fire2 .ensures in (
-      held-after (p .0) g few,
-      (
-        (few, p .1 .0 .1),
-        (
-          p .1 .1 .0,
-          (
-            firing-after (g .grown few) t,
-            family-after (g .grown few) (start a .args .t .e) (1024 + a .role-of .result % 32) (t .low) (inr (ap (λ (x : ℕ). 1024 + x % 32) (a .role-of .ensures))),
-          ),
-        ),
-      ),
-    )
-
-returns-5 : tie.Need-returns-5
-returns-5 c =
     let l = c .before .before .before .before .before .before .before in
-    let f = l .before in
-    let a = asked (first f) in
-    let s = start a .args in
-    let p = start a .pre in
-    gains-both (p .0) (p .1 .1 .1 .low) (s .codes .now) (s .valid .now) (s .lists .now) (a .role-of .ensures) (f .fire2 .ensures) (l .if3 .left) (c .fire3 .ensures)
+    let p = start l .pre in
+    let v = l .loop .inv in
+    let g = v .2 .grown (v .0) in
+    let t = p .1 .1 .1 in
+    (held-after (p .0) (v .2) (v .0), ((v .0, p .1 .0 .1), (p .1 .1 .0, (firing-after g t, family-after g (start l .args .t .e) (l .loop .family) (t .low) (v .1)))))
+
+returns : tie.Need-returns Inv-loop μ-loop
+returns c =
+    let l = c .before .before .before .before .before .before .before .before .before in
+    let a = start l .args in
+    let p = start l .pre in
+    let v = l .loop .inv in
+    families-over (p .0) (a .t .e) (p .1 .1 .1 .low) (a .codes .now) (a .valid .now) (a .lists .now) (a .t .spans) (v .2) (v .0) (v .1) (c .before .fire .ensures) (c .if2 .taken)
+
+returns-2 : tie.Need-returns-2 Inv-loop μ-loop
+returns-2 c =
+    let l = c .before .before .before in
+    let a = start l .args in
+    let p = start l .pre in
+    let v = l .loop .inv in
+    families-end (p .0) (a .t .e) (p .1 .1 .1 .low) (a .codes .now) (a .valid .now) (a .lists .now) (a .t .spans) (v .2) (v .0) (v .1) (gave (c .before) .1) (c .if3 .taken ∙ name-is l)
+
+loop-less : tie.Need-loop-less Inv-loop μ-loop
+loop-less c = omega (arith, first c, own-low (c .before .before .before))
+
+loop-again : tie.Need-loop-again Inv-loop μ-loop
+loop-again c =
+    let l = c .before .before .before in
+    let a = start l .args in
+    let p = start l .pre in
+    let v = l .loop .inv in
+    let g = gave (c .before) in
+    (g .0, inr (name-is l), families-next (p .0) (a .t .e) (p .1 .1 .1 .low) (a .codes .now) (a .valid .now) (a .lists .now) (a .t .spans) (v .2) (v .0) (v .1) (g .1) (omega arith) (first c))
 
 pub fire-both-spec : {M : Type 1} → statement M
 fire-both-spec =
     tie.close
     (tie.spec
+    Inv-loop
+    μ-loop
     mul-role-of
     element-copy-out-role-of
     role-of-requires
     add-name
+    loop-holds
     first-body-requires
-    first-body-requires-2
-    returns
     fire-requires
+    returns
     returns-2
-    fire-requires-2
-    returns-3
-    returns-4
-    fire-requires-3
-    returns-5)
+    loop-less
+    loop-again)

@@ -6,7 +6,7 @@ use native.Mathlib.Omega.{arith}
 use borrow.Author.Needs.{needs}
 use lib.ListN.{getD}
 use lib.Seq.{getD-set-other}
-use Rattle.closing.proofs.Turning.{turned-none, turned-gave}
+use Rattle.closing.proofs.Passes.{any-none, any-gave}
 use Rattle.closing.proofs.give_new.Statement.{statement}
 use Rattle.closing.proofs.give_new.Tie as tie
 
@@ -26,7 +26,7 @@ returns : tie.Need-returns
 returns c =
     let s = c .before .before .before in
     let p = s .pre in
-    (turned-none (s .args .p .any) (p .1 .0 .0) (p .0), (λ f. (refl, record { none = f; spansSame = refl; doneSame = refl; this = sym (c .if1 .taken) }), λ i ne. refl))
+    (any-none (s .args .p .any) (p .1 .0 .0) (p .0), (λ f. (refl, record { none = f; spansSame = refl; doneSame = refl; this = sym (c .if1 .taken) }), λ i ne. refl))
 
 give-requires : tie.Need-give-requires
 give-requires c κs =
@@ -37,7 +37,7 @@ returns-2 : tie.Need-returns-2
 returns-2 c =
     let s = c .before .before .before .before .before .before .before .before .before .before .args in
     let g = c .give .ensures in
-    (turned-gave (s .p .any) g, ((λ f. absurd (let z : _≡_ {A = ℕ} 0 1 = cc in omega arith)), λ i ne. ap (λ (x : List ℕ). getD x i 0) (g .marked) ∙ getD-set-other (s .done .now) (s .v .e) i (getD (s .spans .now) (s .v .e) 0) 0 ne))
+    (any-gave (s .p .any) g, ((λ f. absurd (let z : _≡_ {A = ℕ} 0 1 = cc in omega arith)), λ i ne. ap (λ (x : List ℕ). getD x i 0) (g .marked) ∙ getD-set-other (s .done .now) (s .v .e) i (getD (s .spans .now) (s .v .e) 0) 0 ne))
 
 pub give-new-spec : {M : Type 1} → statement M
 give-new-spec =

@@ -17,23 +17,26 @@ loop-holds c = read-none (c .before .args .src .now)
 sub-i : tie.Need-sub-i Inv-loop μ-loop
 sub-i c = search needs
 
-shared-slice-read-wide : tie.Need-shared-slice-read-wide Inv-loop μ-loop
-shared-slice-read-wide c = search needs
+shared-slice-read-wide8 : tie.Need-shared-slice-read-wide8 Inv-loop μ-loop
+shared-slice-read-wide8 c = search needs
 
-wide-requires : tie.Need-wide-requires Inv-loop μ-loop
-wide-requires c κs = search needs
+wide8-requires : tie.Need-wide8-requires Inv-loop μ-loop
+wide8-requires c κs = search needs
+
+cast-number : tie.Need-cast-number Inv-loop μ-loop
+cast-number c = search needs
 
 mul-number : tie.Need-mul-number Inv-loop μ-loop
-mul-number c = record { fits = omega (arith, eight-fit _ _ _ (read-more (c .before .before .before .before .before .args .src .now) (c .before .before .before .loop .i) (c .before .before .before .loop .number) (c .before .before .before .loop .inv) (c .before .before .loop-test .taken) (c .wide .ensures .0) (omega (arith, c .wide .ensures))) (c .before .before .before .before .before .pre)) }
+mul-number c = record { fits = omega (arith, eight-fit _ _ _ (read-more (c .before .before .before .before .before .args .src .now) (c .before .before .before .loop .i) (c .before .before .before .loop .number) (c .before .before .before .loop .inv) (c .before .before .loop-test .taken) (c .wide8 .ensures .0) (omega (arith, c .wide8 .ensures))) (c .before .before .before .before .before .pre)) }
 
 add-number : tie.Need-add-number Inv-loop μ-loop
-add-number c = record { fits = omega (arith, eight-fit _ _ _ (read-more (c .before .before .before .before .before .args .src .now) (c .before .before .before .loop .i) (c .before .before .before .loop .number) (c .before .before .before .loop .inv) (c .before .before .loop-test .taken) (c .wide .ensures .0) (omega (arith, c .wide .ensures))) (c .before .before .before .before .before .pre)) }
+add-number c = record { fits = omega (arith, eight-fit _ _ _ (read-more (c .before .before .before .before .before .args .src .now) (c .before .before .before .loop .i) (c .before .before .before .loop .number) (c .before .before .before .loop .inv) (c .before .before .loop-test .taken) (c .wide8 .ensures .0) (omega (arith, c .wide8 .ensures))) (c .before .before .before .before .before .pre)) }
 
 loop-less : tie.Need-loop-less Inv-loop μ-loop
 loop-less c = search needs
 
 loop-again : tie.Need-loop-again Inv-loop μ-loop
-loop-again c = read-more (c .before .before .before .before .before .args .src .now) (c .before .before .before .loop .i) (c .before .before .before .loop .number) (c .before .before .before .loop .inv) (c .before .before .loop-test .taken) (c .wide .ensures .0) (omega (arith, c .wide .ensures))
+loop-again c = read-more (c .before .before .before .before .before .args .src .now) (c .before .before .before .loop .i) (c .before .before .before .loop .number) (c .before .before .before .loop .inv) (c .before .before .loop-test .taken) (c .wide8 .ensures .0) (omega (arith, c .wide8 .ensures))
 
 returns : tie.Need-returns Inv-loop μ-loop
 returns c = read-all (c .before .before .before .args .src .now) (c .before .loop .i) (c .before .loop .number) (c .before .loop .inv) (c .loop-test .left)
@@ -46,8 +49,9 @@ get-spec =
     μ-loop
     loop-holds
     sub-i
-    shared-slice-read-wide
-    wide-requires
+    shared-slice-read-wide8
+    wide8-requires
+    cast-number
     mul-number
     add-number
     loop-less

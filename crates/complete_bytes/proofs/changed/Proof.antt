@@ -2,7 +2,7 @@
 use mathlib.Core.Path.{sym, ap, _∙_}
 use Rattle.meaning.specs.Lists.{if}
 use Rattle.completing.specs.declared.Completed.{Completed}
-use Rattle.completing.specs.Completing.{says}
+use Rattle.completing.specs.Completing.{saysCompleted}
 use Rattle.replies.specs.Replies.{writes}
 use borrow.Author.Needs.{needs}
 use Rattle.complete_bytes.proofs.changed.Statement.{statement}
@@ -21,7 +21,7 @@ returns : tie.Need-returns
 returns c = search needs
 
 returns-2 : tie.Need-returns-2
-returns-2 c = c .cleared .ensures ∙ sym (ap (λ (x : Completed). if (writes (says x)) (c .before .before .before .before .args .n) 0) (c .before .before .answer .given .1))
+returns-2 c = c .cleared .ensures ∙ sym (ap (λ (x : Completed). if (writes (saysCompleted x)) (c .before .before .before .before .args .n) 0) (c .before .before .answer .given .1))
 
 pub changed-spec : {M : Type 1} → statement M
 changed-spec = tie.close (tie.spec enum-told enum-known-answer cleared-requires returns returns-2)

@@ -1,6 +1,6 @@
 -- `complete_bytes::complete` meets its contract.
 use mathlib.Core.Path.{sym}
-use Rattle.completing.specs.Completing.{lent, says}
+use Rattle.completing.specs.Completing.{lent, saysCompleted}
 use Rattle.replies.proofs.Leaving.{room-part, room-back, count-fits}
 use Rattle.complete_bytes.proofs.Tables.{completed}
 use borrow.Author.Needs.{needs}
@@ -44,19 +44,19 @@ slice-aggregate-encode32 : tie.Need-slice-aggregate-encode32
 slice-aggregate-encode32 c = sym (room-back (c .before .before .before .before .before .before .before .before .before .before .before .before .before .before .before .before .before .args .n) (c .before .before .before .before .before .before .before .before .before .before .before .before .room32 .result) (c .before .before .before .before .before .before .before .before .before .before .before .before .room32 .ensures) (c .before .before .before .before .before .before .before .before .before .before .before .before .before .before .before .before .before .pre .few) (c .before .before .before .before .before .before .complete .last .1 .0) (c .before .before .before .before .before .before .complete .kept .1 .0))
 
 encode32-requires : tie.Need-encode32-requires
-encode32-requires c κs = count-fits (c .before .before .before .before .before .before .before .before .before .before .before .before .before .before .before .before .before .args .n) (c .before .before .before .before .before .before .before .before .before .before .before .before .room32 .result) (c .before .before .before .before .before .before .before .before .before .before .before .before .room32 .ensures) (c .before .before .before .before .before .before .before .before .before .before .before .before .before .before .before .before .before .pre .few) (c .before .before .before .before .before .before .complete .last .1 .0) (c .before .before .before .before .before .before .complete .kept .1 .0) 4 (says (c .before .before .before .before .before .before .complete .result)) (c .before .before .changed .ensures) (c .before .before .before .before .before .before .before .before .before .before .before .before .before .before .before .before .before .args .roles .now) (c .before .before .before .before .before .before .before .before .before .before .before .before .before .before .before .before .before .pre .roles)
+encode32-requires c κs = count-fits (c .before .before .before .before .before .before .before .before .before .before .before .before .before .before .before .before .before .args .n) (c .before .before .before .before .before .before .before .before .before .before .before .before .room32 .result) (c .before .before .before .before .before .before .before .before .before .before .before .before .room32 .ensures) (c .before .before .before .before .before .before .before .before .before .before .before .before .before .before .before .before .before .pre .few) (c .before .before .before .before .before .before .complete .last .1 .0) (c .before .before .before .before .before .before .complete .kept .1 .0) 4 (saysCompleted (c .before .before .before .before .before .before .complete .result)) (c .before .before .changed .ensures) (c .before .before .before .before .before .before .before .before .before .before .before .before .before .before .before .before .before .args .roles .now) (c .before .before .before .before .before .before .before .before .before .before .before .before .before .before .before .before .before .pre .roles)
 
 slice-aggregate-encode32-2 : tie.Need-slice-aggregate-encode32-2
 slice-aggregate-encode32-2 c = sym (room-back (c .before .before .before .before .before .before .before .before .before .before .before .before .before .before .before .before .before .before .before .before .before .before .args .n) (c .before .before .before .before .before .before .before .before .before .before .before .before .before .before .before .before .room322 .result) (c .before .before .before .before .before .before .before .before .before .before .before .before .before .before .before .before .room322 .ensures) (c .before .before .before .before .before .before .before .before .before .before .before .before .before .before .before .before .before .before .before .before .before .before .pre .few) (c .before .before .before .before .before .before .before .before .before .before .before .complete .last .1 .1 .0) (c .before .before .before .before .before .before .before .before .before .before .before .complete .kept .1 .1 .0))
 
 encode32-requires-2 : tie.Need-encode32-requires-2
-encode32-requires-2 c κs = count-fits (c .before .before .before .before .before .before .before .before .before .before .before .before .before .before .before .before .before .before .before .before .before .before .args .n) (c .before .before .before .before .before .before .before .before .before .before .before .before .before .before .before .before .room322 .result) (c .before .before .before .before .before .before .before .before .before .before .before .before .before .before .before .before .room322 .ensures) (c .before .before .before .before .before .before .before .before .before .before .before .before .before .before .before .before .before .before .before .before .before .before .pre .few) (c .before .before .before .before .before .before .before .before .before .before .before .complete .last .1 .1 .0) (c .before .before .before .before .before .before .before .before .before .before .before .complete .kept .1 .1 .0) 4 (says (c .before .before .before .before .before .before .before .before .before .before .before .complete .result)) (c .before .before .before .before .before .before .before .changed .ensures) (c .before .before .before .before .before .before .before .before .before .before .before .before .before .before .before .before .before .before .before .before .before .before .args .sets .now) (c .before .before .before .before .before .before .before .before .before .before .before .before .before .before .before .before .before .before .before .before .before .before .pre .sets)
+encode32-requires-2 c κs = count-fits (c .before .before .before .before .before .before .before .before .before .before .before .before .before .before .before .before .before .before .before .before .before .before .args .n) (c .before .before .before .before .before .before .before .before .before .before .before .before .before .before .before .before .room322 .result) (c .before .before .before .before .before .before .before .before .before .before .before .before .before .before .before .before .room322 .ensures) (c .before .before .before .before .before .before .before .before .before .before .before .before .before .before .before .before .before .before .before .before .before .before .pre .few) (c .before .before .before .before .before .before .before .before .before .before .before .complete .last .1 .1 .0) (c .before .before .before .before .before .before .before .before .before .before .before .complete .kept .1 .1 .0) 4 (saysCompleted (c .before .before .before .before .before .before .before .before .before .before .before .complete .result)) (c .before .before .before .before .before .before .before .changed .ensures) (c .before .before .before .before .before .before .before .before .before .before .before .before .before .before .before .before .before .before .before .before .before .before .args .sets .now) (c .before .before .before .before .before .before .before .before .before .before .before .before .before .before .before .before .before .before .before .before .before .before .pre .sets)
 
 slice-aggregate-encode64 : tie.Need-slice-aggregate-encode64
 slice-aggregate-encode64 c = sym (room-back (c .before .before .before .before .before .before .before .before .before .before .before .before .before .before .before .before .before .before .before .before .before .before .before .before .before .before .before .args .n) (c .before .before .before .before .before .before .before .before .before .before .before .before .before .before .before .before .before .before .before .before .room64 .result) (c .before .before .before .before .before .before .before .before .before .before .before .before .before .before .before .before .before .before .before .before .room64 .ensures) (c .before .before .before .before .before .before .before .before .before .before .before .before .before .before .before .before .before .before .before .before .before .before .before .before .before .before .before .pre .few) (c .before .before .before .before .before .before .before .before .before .before .before .before .before .before .before .before .complete .last .1 .1 .1 .0) (c .before .before .before .before .before .before .before .before .before .before .before .before .before .before .before .before .complete .kept .1 .1 .1 .0))
 
 encode64-requires : tie.Need-encode64-requires
-encode64-requires c κs = count-fits (c .before .before .before .before .before .before .before .before .before .before .before .before .before .before .before .before .before .before .before .before .before .before .before .before .before .before .before .args .n) (c .before .before .before .before .before .before .before .before .before .before .before .before .before .before .before .before .before .before .before .before .room64 .result) (c .before .before .before .before .before .before .before .before .before .before .before .before .before .before .before .before .before .before .before .before .room64 .ensures) (c .before .before .before .before .before .before .before .before .before .before .before .before .before .before .before .before .before .before .before .before .before .before .before .before .before .before .before .pre .few) (c .before .before .before .before .before .before .before .before .before .before .before .before .before .before .before .before .complete .last .1 .1 .1 .0) (c .before .before .before .before .before .before .before .before .before .before .before .before .before .before .before .before .complete .kept .1 .1 .1 .0) 8 (says (c .before .before .before .before .before .before .before .before .before .before .before .before .before .before .before .before .complete .result)) (c .before .before .before .before .before .before .before .before .before .before .before .before .changed .ensures) (c .before .before .before .before .before .before .before .before .before .before .before .before .before .before .before .before .before .before .before .before .before .before .before .before .before .before .before .args .spans .now) (c .before .before .before .before .before .before .before .before .before .before .before .before .before .before .before .before .before .before .before .before .before .before .before .before .before .before .before .pre .spans)
+encode64-requires c κs = count-fits (c .before .before .before .before .before .before .before .before .before .before .before .before .before .before .before .before .before .before .before .before .before .before .before .before .before .before .before .args .n) (c .before .before .before .before .before .before .before .before .before .before .before .before .before .before .before .before .before .before .before .before .room64 .result) (c .before .before .before .before .before .before .before .before .before .before .before .before .before .before .before .before .before .before .before .before .room64 .ensures) (c .before .before .before .before .before .before .before .before .before .before .before .before .before .before .before .before .before .before .before .before .before .before .before .before .before .before .before .pre .few) (c .before .before .before .before .before .before .before .before .before .before .before .before .before .before .before .before .complete .last .1 .1 .1 .0) (c .before .before .before .before .before .before .before .before .before .before .before .before .before .before .before .before .complete .kept .1 .1 .1 .0) 8 (saysCompleted (c .before .before .before .before .before .before .before .before .before .before .before .before .before .before .before .before .complete .result)) (c .before .before .before .before .before .before .before .before .before .before .before .before .changed .ensures) (c .before .before .before .before .before .before .before .before .before .before .before .before .before .before .before .before .before .before .before .before .before .before .before .before .before .before .before .args .spans .now) (c .before .before .before .before .before .before .before .before .before .before .before .before .before .before .before .before .before .before .before .before .before .before .before .before .before .before .before .pre .spans)
 
 number-of-requires : tie.Need-number-of-requires
 number-of-requires c κs = search needs

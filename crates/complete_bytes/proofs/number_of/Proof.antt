@@ -1,7 +1,7 @@
 -- `complete_bytes::number_of` meets its contract.
 use mathlib.Core.Path.{sym, ap, _∙_}
 use Rattle.completing.specs.declared.Completed.{Completed}
-use Rattle.completing.specs.Completing.{says}
+use Rattle.completing.specs.Completing.{saysCompleted}
 use Rattle.replies.specs.Interface.{word}
 use borrow.Author.Needs.{needs}
 use Rattle.complete_bytes.proofs.number_of.Statement.{statement}
@@ -23,7 +23,7 @@ returns : tie.Need-returns
 returns c = search needs
 
 returns-2 : tie.Need-returns-2
-returns-2 c = c .refusal .ensures ∙ sym (ap (λ (x : Completed). word (λ n. n) (says x)) (c .before .before .answer2 .given .1))
+returns-2 c = c .refusal .ensures ∙ sym (ap (λ (x : Completed). word (λ n. n) (saysCompleted x)) (c .before .before .answer2 .given .1))
 
 pub number-of-spec : {M : Type 1} → statement M
 number-of-spec =

@@ -1,6 +1,7 @@
 -- `ends::ends_of` meets its contract.
 use native.Mathlib.Omega.{arith}
-use Rattle.ends.proofs.Answers.{survey-sizes, ends-refused, ends-done}
+use Rattle.survey.proofs.Outcomes.{survey-sizes}
+use Rattle.ends.proofs.Answers.{ends-refused, ends-done}
 use borrow.Author.Needs.{needs}
 use Rattle.ends.proofs.ends_of.Statement.{statement}
 use Rattle.ends.proofs.ends_of.Tie as tie

@@ -1,7 +1,8 @@
 -- `ends::intervals_of` meets its contract.
 use mathlib.Core.Path.{sym, _∙_}
 use native.Mathlib.Omega.{arith}
-use Rattle.ends.proofs.Answers.{survey-sizes, intervals-refused, intervals-beyond, intervals-done}
+use Rattle.survey.proofs.Outcomes.{survey-sizes}
+use Rattle.ends.proofs.Answers.{intervals-refused, intervals-beyond, intervals-done}
 use borrow.Author.Needs.{needs}
 use Rattle.ends.proofs.intervals_of.Statement.{statement}
 use Rattle.ends.proofs.intervals_of.Tie as tie

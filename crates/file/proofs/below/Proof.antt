@@ -6,14 +6,14 @@ use borrow.Author.Needs.{needs}
 use Rattle.file.proofs.below.Statement.{statement}
 use Rattle.file.proofs.below.Tie as tie
 
-shared-slice-read-wide : tie.Need-shared-slice-read-wide
-shared-slice-read-wide c = search needs
+shared-slice-read-wide8 : tie.Need-shared-slice-read-wide8
+shared-slice-read-wide8 c = search needs
 
-wide-requires : tie.Need-wide-requires
-wide-requires c κs = search needs
+wide8-requires : tie.Need-wide8-requires
+wide8-requires c κs = search needs
 
 returns : tie.Need-returns
-returns c = ap (λ (x : ℕ). ltb x (c .before .before .before .args .limit)) (c .wide .ensures .0)
+returns c = ap (λ (x : ℕ). ltb x (c .before .before .before .args .limit)) (c .wide8 .ensures .0)
 
 pub below-spec : {M : Type 1} → statement M
-below-spec = tie.close (tie.spec shared-slice-read-wide wide-requires returns)
+below-spec = tie.close (tie.spec shared-slice-read-wide8 wide8-requires returns)

@@ -53,34 +53,46 @@ add-own c = search needs
 cast-own : tie.Need-cast-own
 cast-own c = let p = c .before .before .before .before .before .before .before .before .before .before .before .before .pre in omega (arith, p .1 .0 .low, p .0 .few)
 
+plan-of-requires : tie.Need-plan-of-requires
+plan-of-requires c κs = tt
+
 with-each-requires : tie.Need-with-each-requires
 with-each-requires c κs =
-    let t = c .before .before .before .before .before .before .before .before .before .before in
+    let m = c .before .before .before .before .before in
+    let t = m .before .before .before .before .before .before in
     let p = spanned t .before .pre in
     let l = t .plan .ensures .low in
-    (p .0, (l .2, l .0, omega (arith, p .1 .0 .low)))
+    rw (m .plan-of .ensures) (p .0, (l .2, l .0, omega (arith, p .1 .0 .low)))
 
 returns-3 : tie.Need-returns-3
-returns-3 c = let t = c .before .before .before .before .before .before .before .before .before .before .before in
+returns-3 c =
+    let m = c .before .before .before .before .before .before in
+    let t = m .before .before .before .before .before .before in
     let b = spanned t in
     let a = b .before .args in
     move-gains (a .codes .now) (a .valid .now) (a .lists .now) (a .body) (b .body-spans .result) (cover b) (a .keys .now) (a .done .now) (a .n) (a .t .e) (a .t .spans) (getD (a .codes .now) (a .body) 0) (t .plan .ensures) true
-    (c .before .before .before .before .before .before .if3 .taken) (c .before .before .before .before .before .before .before .before .if2 .left)
-    (each-gains (a .codes .now) (a .valid .now) (a .lists .now) (a .body) (a .keys .now) (a .done .now) (t .plan .result) (c .with-each .ensures))
+    (m .before .if3 .taken) (m .before .before .before .if2 .left)
+    (each-gains (a .codes .now) (a .valid .now) (a .lists .now) (a .body) (a .keys .now) (a .done .now) (t .plan .result) (rw (m .plan-of .ensures) at (c .with-each .ensures)))
+
+gift-of-requires : tie.Need-gift-of-requires
+gift-of-requires c κs = tt
 
 add-heads-requires : tie.Need-add-heads-requires
 add-heads-requires c κs =
-    let t = c .before .before .before .before .before .before .before .before .before .before in
+    let m = c .before .before .before .before .before in
+    let t = m .before .before .before .before .before .before in
     let p = spanned t .before .pre in
     let l = t .plan .ensures .low in
-    (p .0, (l .0, omega (arith, p .1 .0 .low), l .1))
+    rw (m .gift-of .ensures) (p .0, (l .0, omega (arith, p .1 .0 .low), l .1))
 
 returns-4 : tie.Need-returns-4
-returns-4 c = let t = c .before .before .before .before .before .before .before .before .before .before .before in
+returns-4 c =
+    let m = c .before .before .before .before .before .before in
+    let t = m .before .before .before .before .before .before in
     let b = spanned t in
     let a = b .before .args in
     move-gains (a .codes .now) (a .valid .now) (a .lists .now) (a .body) (b .body-spans .result) (cover b) (a .keys .now) (a .done .now) (a .n) (a .t .e) (a .t .spans) (getD (a .codes .now) (a .body) 0) (t .plan .ensures) false
-    (c .before .before .before .before .before .before .if3 .left) (c .before .before .before .before .before .before .before .before .if2 .left) (c .add-heads .ensures)
+    (m .before .if3 .left) (m .before .before .before .if2 .left) (rw (m .gift-of .ensures) at (c .add-heads .ensures))
 
 pub fire-body-spec : {M : Type 1} → statement M
 fire-body-spec =
@@ -94,7 +106,9 @@ fire-body-spec =
     returns-2
     add-own
     cast-own
+    plan-of-requires
     with-each-requires
     returns-3
+    gift-of-requires
     add-heads-requires
     returns-4)

@@ -1,7 +1,7 @@
 -- `loading::load_use` meets its contract: a set, a credential valid in no span, and any other.
 use mathlib.Core.Path.{subst⁻¹}
 use borrow.Author.Needs.{needs}
-use Rattle.loading.specs.Steps.{Stated}
+use Rattle.loading.specs.Steps.{InFormat}
 use Rattle.loading.proofs.Bodies.{set-added, invalid-added, valid-added}
 use Rattle.loading.proofs.load_use.Statement.{statement}
 use Rattle.loading.proofs.load_use.Tie as tie
@@ -28,7 +28,7 @@ cast-add-uses c = search needs
 add-uses-requires : tie.Need-add-uses-requires
 add-uses-requires c κs =
     let s = c .before .before .before .before .before .before .before .before in
-    (s .pre .0, (subst⁻¹ Stated (c .before .before .before .before .before .before .before .statement-at .ensures) (s .pre .1 .1 .1), (s .pre .1 .1 .0, c .before .before .before .before .before .if1 .left, c .before .before .before .if2 .left)))
+    (s .pre .0, (subst⁻¹ InFormat (c .before .before .before .before .before .before .before .statement-at .ensures) (s .pre .1 .1 .1), (s .pre .1 .1 .0, c .before .before .before .before .before .if1 .left, c .before .before .before .if2 .left)))
 
 returns-3 : tie.Need-returns-3
 returns-3 c =

@@ -5,8 +5,11 @@ use borrow.Author.Needs.{needs}
 use Rattle.notation.proofs.credential_line.Statement.{statement}
 use Rattle.notation.proofs.credential_line.Tie as tie
 
-put-label-requires : tie.Need-put-label-requires
-put-label-requires c κs = search needs
+put-field-requires : tie.Need-put-field-requires
+put-field-requires c κs = search needs
+
+put-byte-requires : tie.Need-put-byte-requires
+put-byte-requires c κs = search needs
 
 put-statement-requires : tie.Need-put-statement-requires
 put-statement-requires c κs = search needs
@@ -22,7 +25,7 @@ put-period-requires c κs = search needs
 
 returns : tie.Need-returns
 returns c =
-    let e₁ = c .before .before .before .before .before .before .before .put-label .ensures in
+    let e₁ = c .before .before .before .before .before .before .before .before .before .put-field .ensures then c .before .before .before .before .before .before .before .put-byte .ensures in
     let e₂ = c .before .before .before .before .before .put-statement .ensures in
     let e₃ = c .before .before .put-bytes .ensures in
     let e₄ = c .put-period .ensures in
@@ -32,7 +35,8 @@ pub credential-line-spec : {M : Type 1} → statement M
 credential-line-spec =
     tie.close
     (tie.spec
-    put-label-requires
+    put-field-requires
+    put-byte-requires
     put-statement-requires
     slice-aggregate-put-bytes
     put-bytes-requires

@@ -26,26 +26,17 @@ put-linked-requires c κs = search needs
 enum-known-body-4 : tie.Need-enum-known-body-4
 enum-known-body-4 c = search needs
 
-slice-aggregate-put-joined : tie.Need-slice-aggregate-put-joined
-slice-aggregate-put-joined c = search needs
-
 put-joined-requires : tie.Need-put-joined-requires
 put-joined-requires c κs = search needs
 
 enum-known-body-5 : tie.Need-enum-known-body-5
 enum-known-body-5 c = search needs
 
-slice-aggregate-put-joined-2 : tie.Need-slice-aggregate-put-joined-2
-slice-aggregate-put-joined-2 c = search needs
-
 put-joined-requires-2 : tie.Need-put-joined-requires-2
 put-joined-requires-2 c κs = search needs
 
 enum-known-body-6 : tie.Need-enum-known-body-6
 enum-known-body-6 c = search needs
-
-slice-aggregate-put-joined-3 : tie.Need-slice-aggregate-put-joined-3
-slice-aggregate-put-joined-3 c = search needs
 
 put-joined-requires-3 : tie.Need-put-joined-requires-3
 put-joined-requires-3 c κs = search needs
@@ -72,19 +63,19 @@ same-length-4 : tie.Need-same-length-4
 same-length-4 c = c .before .before .put-joined .kept .0
 
 returns-4 : tie.Need-returns-4
-returns-4 c = rw (c .before .before .before .before .before .before .body4 .given .1) (wider (omega arith) (c .before .before .put-joined .ensures))
+returns-4 c = rw (c .before .before .before .before .before .body4 .given .1) (wider (omega arith) (c .before .before .put-joined .ensures))
 
 same-length-5 : tie.Need-same-length-5
 same-length-5 c = c .before .before .put-joined2 .kept .0
 
 returns-5 : tie.Need-returns-5
-returns-5 c = rw (c .before .before .before .before .before .before .body5 .given .1) (wider (omega arith) (c .before .before .put-joined2 .ensures))
+returns-5 c = rw (c .before .before .before .before .before .body5 .given .1) (wider (omega arith) (c .before .before .put-joined2 .ensures))
 
 same-length-6 : tie.Need-same-length-6
 same-length-6 c = c .before .before .put-joined3 .kept .0
 
 returns-6 : tie.Need-returns-6
-returns-6 c = rw (c .before .before .before .before .before .before .body6 .given .1) (wider (omega arith) (c .before .before .put-joined3 .ensures))
+returns-6 c = rw (c .before .before .before .before .before .body6 .given .1) (wider (omega arith) (c .before .before .put-joined3 .ensures))
 
 pub put-body-spec : {M : Type 1} → statement M
 put-body-spec =
@@ -97,13 +88,10 @@ put-body-spec =
     enum-known-body-3
     put-linked-requires
     enum-known-body-4
-    slice-aggregate-put-joined
     put-joined-requires
     enum-known-body-5
-    slice-aggregate-put-joined-2
     put-joined-requires-2
     enum-known-body-6
-    slice-aggregate-put-joined-3
     put-joined-requires-3
     same-length
     returns

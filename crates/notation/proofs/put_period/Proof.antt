@@ -1,5 +1,5 @@
+-- `put_period` writes two fields with a second dot between them.
 use mathlib.Core.Path.{_∙_}
--- `put_period` writes two numbers with two dots between them.
 use Rattle.text.proofs.Putting.{_then_}
 use borrow.Author.Needs.{needs}
 use Rattle.notation.proofs.put_period.Statement.{statement}
@@ -8,32 +8,19 @@ use Rattle.notation.proofs.put_period.Tie as tie
 put-field-requires : tie.Need-put-field-requires
 put-field-requires c κs = search needs
 
-slice-aggregate-put-bytes : tie.Need-slice-aggregate-put-bytes
-slice-aggregate-put-bytes c = search needs
-
-put-bytes-requires : tie.Need-put-bytes-requires
-put-bytes-requires c κs = search needs
+put-byte-requires : tie.Need-put-byte-requires
+put-byte-requires c κs = search needs
 
 put-field-requires-2 : tie.Need-put-field-requires-2
 put-field-requires-2 c κs = search needs
 
 same-length : tie.Need-same-length
-same-length c = c .before .before .put-field2 .kept .0 ∙ c .before .before .before .before .before .before .put-bytes .kept .0 ∙ c .before .before .before .before .before .before .before .before .before .before .before .put-field .kept .0
+same-length c = c .before .before .put-field2 .kept .0 ∙ c .before .before .before .before .before .before .put-byte .kept .0 ∙ c .before .before .before .before .before .before .before .before .before .before .put-field .kept .0
 
 returns : tie.Need-returns
-returns c =
-    let e₁ = c .before .before .before .before .before .before .before .before .before .before .before .put-field .ensures in
-    let e₂ = c .before .before .before .before .before .before .put-bytes .ensures in
-    let e₃ = c .before .before .put-field2 .ensures in
-    e₁ then e₂ then e₃
+returns c = c .before .before .before .before .before .before .before .before .before .before .put-field .ensures then c .before .before .before .before .before .before .put-byte .ensures then c .before .before .put-field2 .ensures
 
 pub put-period-spec : {M : Type 1} → statement M
 put-period-spec =
     tie.close
-    (tie.spec
-    put-field-requires
-    slice-aggregate-put-bytes
-    put-bytes-requires
-    put-field-requires-2
-    same-length
-    returns)
+    (tie.spec put-field-requires put-byte-requires put-field-requires-2 same-length returns)

@@ -1,5 +1,5 @@
-use mathlib.Core.Path.{_∙_}
 -- `put_role` writes two numbers with a dot between them.
+use mathlib.Core.Path.{_∙_}
 use Rattle.text.proofs.Putting.{_then_}
 use borrow.Author.Needs.{needs}
 use Rattle.notation.proofs.put_role.Statement.{statement}

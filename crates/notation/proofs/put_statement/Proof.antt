@@ -1,5 +1,5 @@
-use mathlib.Core.Path.{_∙_}
 -- `put_statement` writes a role, an arrow and a body.
+use mathlib.Core.Path.{_∙_}
 use Rattle.text.proofs.Putting.{_then_}
 use borrow.Author.Needs.{needs}
 use Rattle.notation.proofs.put_statement.Statement.{statement}

@@ -1,5 +1,5 @@
 -- `pairs::with_head` adds what one head gives from each entry of the role's list, where it is not there yet.
-use mathlib.Core.Path.{_≡_, refl}
+use mathlib.Core.Path.{_≡_, refl, ap}
 use mathlib.Core.Logic.{⊎-elim}
 use Prim.Native.Nat.{_-_, _≤_}
 use native.Mathlib.Omega.{arith}
@@ -7,6 +7,7 @@ use Rattle.store.specs.Entries.{latest}
 use Rattle.store.proofs.Stores.{grown-trans}
 use Rattle.heads.specs.Gaining.{Gains}
 use Rattle.heads.proofs.Walks.{lower, along-start, along-next, along-over, along-end}
+use Rattle.waiting.specs.declared.Pair.{Pair}
 use Rattle.waiting.specs.Pairs.{roleOf}
 use Rattle.pairs.proofs.Lists.{roles-start, roles-next}
 use Rattle.pairs.proofs.OneHead.{entry-there, entry-added}
@@ -34,6 +35,10 @@ start h = looped h .before .before .before .before
 abbrev placed : (h : tie.After-has Inv-loop μ-loop) → looped h .loop .at ≡ 0 → ⊥
 placed h = h .before .before .before .before .before .before .loop-test .taken
 
+-- the partner's word
+partner : (h : tie.After-has Inv-loop μ-loop) → h .before .before .before .before .pair-at .result .other ≡ looped h .loop .at
+partner h = let e = ap (λ (x : Pair). x .other) (h .before .before .before .before .pair-at .ensures .0) in omega (arith, placed h)
+
 -- all that the entry at the place gives is there after the turn
 turned : (c : tie.Joined1 Inv-loop μ-loop) →
     let a = start (c .before) .args in
@@ -47,7 +52,7 @@ turned c =
     let v = looped h .loop .inv in
     let x = h .before .before .before .before .pair-at .ensures .0 in
     ⊎-elim
-    (λ w. rw (w .8, w .9, w .10, w .11, w .12, w .13) (w .7 .left, entry-added (a .p .offer) (p .1 .1) v (p .1 .0 .0) (placed h) x refl (w .6 .ensures)))
+    (λ w. rw (w .9, w .10, w .11, w .12, w .13, w .14) (w .8 .left, entry-added (a .p .offer) (p .1 .1) v (p .1 .0 .0) (placed h) x (partner h) (rw (w .1 .ensures) at (w .7 .ensures))))
     (λ w. rw (w .1, w .2, w .3, w .4, w .5, w .6) (v .few, entry-there (a .p .offer) (p .1 .1) v (p .1 .0 .0) (placed h) x (looped h .before .before .before .head-role .ensures) refl (h .has .ensures (not-false (h .has .result) (w .0 .left)))))
     (c .if1 .came)
 
@@ -93,28 +98,32 @@ has-requires c κs =
     let k = v .gains .kept (v .few) .stored in
     (k .searchable, ((k .room .0, k .room .1, k .few), (omega (arith, c .before .before .before .before .before .before .before .before .before .head-role .ensures), c .before .before .before .pair-at .ensures .1)))
 
-cast-t32 : tie.Need-cast-t32 Inv-loop μ-loop
-cast-t32 c =
+gift-of-requires : tie.Need-gift-of-requires Inv-loop μ-loop
+gift-of-requires c κs =
     let p = start (c .before) .pre in
     let w = looped (c .before) .loop .inv .on (placed (c .before)) in
-    omega (arith, p .0 .few, p .1 .0)
+    omega (arith, partner (c .before), p .0 .few, p .1 .0)
 
 add-head-requires : tie.Need-add-head-requires Inv-loop μ-loop
 add-head-requires c κs =
-    let h = c .before .before .before .before .before .before in
+    let g = c .before .before .before .before .before in
+    let h = g .before .before in
     let p = start h .pre in
     let v = looped h .loop .inv in
     let w = v .on (placed h) in
     let m = v .gains .grown (v .few) .more in
+    let o = partner h in
+    rw (g .gift-of .ensures)
     (v .gains .kept (v .few), ((v .few, p .0 .few .1, omega (arith, p .1 .1 .low, p .0 .listed .few)), (h .before .before .before .before .pair-at .ensures .1, omega (arith, p .1 .0), omega (arith, p .1 .0))))
 
 returns : tie.Need-returns Inv-loop μ-loop
 returns c =
-    let h = c .before .before .before .before .before .before .before .before in
+    let g = c .before .before .before .before .before .before .before in
+    let h = g .before .before in
     let a = start h .args in
     let p = start h .pre in
     let v = looped h .loop .inv in
-    along-over v (placed h) (entry-added (a .p .offer) (p .1 .1) v (p .1 .0 .0) (placed h) (h .before .before .before .before .pair-at .ensures .0) refl (c .before .add-head .ensures)) (λ k s w. w) (c .if2 .taken)
+    along-over v (placed h) (entry-added (a .p .offer) (p .1 .1) v (p .1 .0 .0) (placed h) (h .before .before .before .before .pair-at .ensures .0) (partner h) (rw (g .gift-of .ensures) at (c .before .add-head .ensures))) (λ k s w. w) (c .if2 .taken)
 
 sub-wide : tie.Need-sub-wide Inv-loop μ-loop
 sub-wide c = omega (arith, placed (c .before))
@@ -156,7 +165,7 @@ with-head-spec =
     sub-pair-at
     pair-at-requires
     has-requires
-    cast-t32
+    gift-of-requires
     add-head-requires
     returns
     sub-wide

@@ -4,7 +4,7 @@ use native.Mathlib.Omega.{arith}
 use lib.ListN.{length}
 use Rattle.heads.proofs.Walks.{along-start, along-end}
 use Rattle.waiting.specs.Pairs.{roleOf}
-use Rattle.waiting.proofs.Linking.{stored-linked, linked-less}
+use Rattle.waiting.proofs.Linking.{stored-lists, lists-less}
 use Rattle.pairs.proofs.Lists.{roles-start}
 use Rattle.pairs.proofs.Walks.{Walked}
 use Rattle.pairs.proofs.Gathering.{partner-low, portion-over, portion-next}
@@ -43,7 +43,7 @@ gather-requires c κs =
     let k = v .gains .kept (v .few) .stored in
     let m = v .gains .grown (v .few) .more in
     let w = v .on (c .before .before .before .loop-test .taken) in
-    (l .inv .1, p .1 .0 .1, omega (arith, p .0 .few, p .1 .0), linked-less (l .keys) (l .links) (l .at) (omega (arith, p .1 .0)) (stored-linked k))
+    (l .inv .1, p .1 .0 .1, omega (arith, p .0 .few, p .1 .0), lists-less (l .keys) (l .links) (l .at) (omega (arith, p .1 .0)) (stored-lists k))
 
 add-waiting-requires : tie.Need-add-waiting-requires Inv-loop μ-loop
 add-waiting-requires c κs =

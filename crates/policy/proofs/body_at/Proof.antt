@@ -8,11 +8,14 @@ use borrow.Author.Needs.{needs}
 use Rattle.policy.proofs.body_at.Statement.{statement}
 use Rattle.policy.proofs.body_at.Tie as tie
 
-shared-slice-read-wide : tie.Need-shared-slice-read-wide
-shared-slice-read-wide c = search needs
+shared-slice-read-wide8 : tie.Need-shared-slice-read-wide8
+shared-slice-read-wide8 c = search needs
 
-wide-requires : tie.Need-wide-requires
-wide-requires c κs = search needs
+wide8-requires : tie.Need-wide8-requires
+wide8-requires c κs = search needs
+
+cast-result : tie.Need-cast-result
+cast-result c = search needs
 
 shl-result : tie.Need-shl-result
 shl-result c = search needs
@@ -20,9 +23,9 @@ shl-result c = search needs
 returns : tie.Need-returns
 returns c =
     let b = c .before .before .before .before .pre .1 in
-    let e = c .wide .ensures .0 in
-    let l : 2 ^ c .wide .result < 4294967296 = pow-lt {j = 32} (omega arith) in
-    let x : 1 * 2 ^ c .wide .result % 18446744073709551616 ≡ 2 ^ c .wide .result = omega arith in
+    let e = c .wide8 .ensures .0 in
+    let l : 2 ^ c .wide8 .result < 4294967296 = pow-lt {j = 32} (omega arith) in
+    let x : 1 * 2 ^ c .wide8 .result % 18446744073709551616 ≡ 2 ^ c .wide8 .result = omega arith in
     (rw (x, e) (sym (simp (eq-eqb _ _ (c .before .before .if1 .taken)))), rw x l)
 
 role-at-requires : tie.Need-role-at-requires
@@ -47,8 +50,9 @@ pub body-at-spec : {M : Type 1} → statement M
 body-at-spec =
     tie.close
     (tie.spec
-    shared-slice-read-wide
-    wide-requires
+    shared-slice-read-wide8
+    wide8-requires
+    cast-result
     shl-result
     returns
     role-at-requires

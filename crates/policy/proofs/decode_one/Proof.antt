@@ -2,6 +2,7 @@
 use mathlib.Core.Path.{sym, ap, _∙_}
 use native.Mathlib.Omega.{arith}
 use Rattle.file.specs.declared.Period.{Period}
+use Rattle.policy.proofs.Bytes.{small}
 use Rattle.policy.proofs.Storing.{one-decoded}
 use borrow.Author.Needs.{needs}
 use Rattle.policy.proofs.decode_one.Statement.{statement}
@@ -14,7 +15,9 @@ returns : tie.Need-returns
 returns c = search needs
 
 word-at-requires : tie.Need-word-at-requires
-word-at-requires c κs = search needs
+word-at-requires c κs =
+    let s = c .before .before .before in
+    (omega arith, small (s .args .file .now) (s .args .h) (s .args .i) (s .pre .0) (sym (c .before .fault .ensures) ∙ c .if1 .left) .entity)
 
 read-period-requires : tie.Need-read-period-requires
 read-period-requires c κs = search needs

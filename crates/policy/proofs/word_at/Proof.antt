@@ -1,6 +1,5 @@
 -- `word_at` meets its contract: kind, head and body, each from its bytes.
 use native.Mathlib.Nat.{add-assoc, add-zero}
-use Rattle.policy.proofs.Bytes.{small}
 use borrow.Author.Needs.{needs}
 use Rattle.policy.proofs.word_at.Statement.{statement}
 use Rattle.policy.proofs.word_at.Tie as tie
@@ -11,11 +10,14 @@ mul-at c = search needs
 add-at : tie.Need-add-at
 add-at c = search needs
 
-shared-slice-read-wide : tie.Need-shared-slice-read-wide
-shared-slice-read-wide c = search needs
+shared-slice-read-wide8 : tie.Need-shared-slice-read-wide8
+shared-slice-read-wide8 c = search needs
 
-wide-requires : tie.Need-wide-requires
-wide-requires c κs = search needs
+wide8-requires : tie.Need-wide8-requires
+wide8-requires c κs = search needs
+
+cast-kind : tie.Need-cast-kind
+cast-kind c = search needs
 
 add-role-at : tie.Need-add-role-at
 add-role-at c = search needs
@@ -27,10 +29,7 @@ add-body-at : tie.Need-add-body-at
 add-body-at c = search needs
 
 body-at-requires : tie.Need-body-at-requires
-body-at-requires c κs =
-    let s = c .before .before .before .before in
-    let e = small (s .args .file .now) (s .args .h) (s .args .i) (s .pre .0) (s .pre .2) .entity in
-    search needs
+body-at-requires c κs = search needs
 
 mul-result : tie.Need-mul-result
 mul-result c = search needs
@@ -45,7 +44,7 @@ add-result-2 : tie.Need-add-result-2
 add-result-2 c = search needs
 
 returns : tie.Need-returns
-returns c = simp (c .body-at .ensures .0, c .before .role-at .ensures .0, c .before .before .wide .ensures .0, add-assoc, add-zero)
+returns c = simp (c .body-at .ensures .0, c .before .role-at .ensures .0, c .before .before .wide8 .ensures .0, add-assoc, add-zero)
 
 pub word-at-spec : {M : Type 1} → statement M
 word-at-spec =
@@ -53,8 +52,9 @@ word-at-spec =
     (tie.spec
     mul-at
     add-at
-    shared-slice-read-wide
-    wide-requires
+    shared-slice-read-wide8
+    wide8-requires
+    cast-kind
     add-role-at
     role-at-requires
     add-body-at

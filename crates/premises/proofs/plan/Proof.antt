@@ -33,14 +33,14 @@ small o = let s = first o in s .pre .0 .roles (s .args .t .e) (s .pre .1 .0 .low
 set-is : (o : tie.After-other-of) → o .before .before .before .before .set-of .result ≡ setIn (key o)
 set-is o = o .before .before .before .before .set-of .ensures .0
 
-own-is : (o : tie.After-other-of) → o .before .before .role-of .result ≡ roleIn (key o)
-own-is o = o .before .before .role-of .ensures
+role-is : (o : tie.After-other-of) → o .before .before .role-of .result ≡ roleIn (key o)
+role-is o = o .before .before .role-of .ensures
 
 kind-is : (o : tie.After-other-of) → o .before .kind-of .result ≡ kindIn (first o .args .code)
 kind-is o = o .before .kind-of .ensures
 
-other-is : (o : tie.After-other-of) → o .other-of .result ≡ otherIn (first o .args .code)
-other-is o = o .other-of .ensures .0
+partner-is : (o : tie.After-other-of) → o .other-of .result ≡ otherIn (first o .args .code)
+partner-is o = o .other-of .ensures .0
 
 -- a link
 abbrev link : tie.After-family-of → tie.After-other-of
@@ -50,7 +50,7 @@ two : (f : tie.After-family-of) → kindIn (first (link f) .args .code) ≡ 2
 two f = sym (kind-is (link f)) ∙ f .before .if3 .left
 
 shift : (o : tie.After-other-of) → 1 * 2 ^ (o .before .before .role-of .result / 32) % 2 ^ 64 ≡ 2 ^ (roleIn (key o) / 32)
-shift o = ap (λ (x : ℕ). 1 * 2 ^ (x / 32) % 2 ^ 64) (own-is o) ∙ shifted (roleIn (key o) / 32) (omega (arith, small o))
+shift o = ap (λ (x : ℕ). 1 * 2 ^ (x / 32) % 2 ^ 64) (role-is o) ∙ shifted (roleIn (key o) / 32) (omega (arith, small o))
 
 shift-low : (o : tie.After-other-of) → 2 ^ (roleIn (key o) / 32) < 2 ^ 32
 shift-low o = pow-lt {j = 32} (omega (arith, small o))
@@ -66,7 +66,7 @@ entity-low : (e : tie.Else5) → trailingZeros 32 (link (e .before .before) .bef
 entity-low e = let o = link (e .before .before) in sole-below _ (o .before .before .before .before .set-of .ensures .1) (e .if5 .left)
 
 linked-is : (e : tie.Else5) → trailingZeros 32 (link (e .before .before) .before .before .before .before .set-of .result) * 32 + link (e .before .before) .other-of .result ≡ trailingZeros 32 (setIn (key (link (e .before .before)))) * 32 + otherIn (first (link (e .before .before)) .args .code)
-linked-is e = let o = link (e .before .before) in ap (λ (x : ℕ). trailingZeros 32 x * 32 + o .other-of .result) (set-is o) ∙ ap (λ (x : ℕ). trailingZeros 32 (setIn (key o)) * 32 + x) (other-is o)
+linked-is e = let o = link (e .before .before) in ap (λ (x : ℕ). trailingZeros 32 x * 32 + o .other-of .result) (set-is o) ∙ ap (λ (x : ℕ). trailingZeros 32 (setIn (key o)) * 32 + x) (partner-is o)
 
 linked-low : (e : tie.Else5) → trailingZeros 32 (setIn (key (link (e .before .before)))) * 32 + otherIn (first (link (e .before .before)) .args .code) < 1024
 linked-low e = let o = link (e .before .before) in link-role (first o .pre .1 .1) (small o) (two (e .before .before)) (by-role (e .before)) (sole-of e)
@@ -119,7 +119,7 @@ returns-2 c = let o = c .before .before .before .before in
     let k = sym (kind-is o) ∙ c .before .before .if2 .taken in
     planned-with (a .t) (a .code) (a .d) (s .pre .0) (s .pre .1 .0) (otherIn (a .code)) (setIn (key o)) (omega arith, set-below (key o)) (λ f. omega arith)
     (λ P. gets-same (s .pre .1 .1) (small o) P k) (λ P X. by-three k)
-    (single-same (c .before .key-of .ensures ∙ ap (λ (x : ℕ). keyOf x (o .before .before .before .before .set-of .result)) (other-is o) ∙ ap (λ (x : ℕ). keyOf (otherIn (a .code)) x) (set-is o)) (set-is o) (c .with-one .ensures))
+    (single-same (c .before .key-of .ensures ∙ ap (λ (x : ℕ). keyOf x (o .before .before .before .before .set-of .result)) (partner-is o) ∙ ap (λ (x : ℕ). keyOf (otherIn (a .code)) x) (set-is o)) (set-is o) (c .with-one .ensures))
 
 start-at-requires : tie.Need-start-at-requires
 start-at-requires c κs = search needs
@@ -134,14 +134,14 @@ returns-3 c = let o = c .before .before .before .before .before in
     let k : 4 ≤ kindIn (a .code) = omega (arith, kind-is o, c .before .before .if3 .taken, c .before .before .before .if2 .left, c .before .before .before .before .if1 .left, s .pre .1 .1 .kind) in
     let at = c .before .start-at .result in
     subst⁻¹ (Plans o) (c .walking .ensures ∙ ap (λ (x : ℕ). walkOf x (o .before .before .before .before .set-of .result) (a .d) at) (kind-is o) ∙ ap (λ (x : ℕ). walkOf (kindIn (a .code)) x (a .d) at) (set-is o))
-    (planned-each (a .t) (a .code) (a .d) (s .pre .0) (s .pre .1 .0) (kindIn (a .code)) (otherIn (a .code)) at (omega arith) (walking-same (a .links .now) (a .t) at (own-is o) (other-is o) (c .before .start-at .ensures)) (λ f. omega arith)
+    (planned-each (a .t) (a .code) (a .d) (s .pre .0) (s .pre .1 .0) (kindIn (a .code)) (otherIn (a .code)) at (omega arith) (walking-same (a .links .now) (a .t) at (role-is o) (partner-is o) (c .before .start-at .ensures)) (λ f. omega arith)
     (λ P. gets-pair (s .pre .1 .1) (small o) P k) (λ P X. by-pair k))
 
 family-of-requires : tie.Need-family-of-requires
 family-of-requires c κs = search needs
 
 shl-key-of : tie.Need-shl-key-of
-shl-key-of c = let o = link (c .before) in omega (arith, own-is o, small o)
+shl-key-of c = let o = link (c .before) in omega (arith, role-is o, small o)
 
 key-of-requires-2 : tie.Need-key-of-requires-2
 key-of-requires-2 c κs = let o = link (c .before) in (o .other-of .ensures .1, omega (arith, shift o, shift-low o))
@@ -159,7 +159,7 @@ returns-4 c = let f = c .before .before .before in
     let l : 1024 ≤ familyIn (a .code) = omega (arith, c .before .before .if4 .taken, f .family-of .ensures) in
     planned-with (a .t) (a .code) (a .d) (s .pre .0) (s .pre .1 .0) (otherIn (a .code)) (2 ^ (roleIn (key o) / 32)) (omega arith, shift-low o) (λ f. omega arith)
     (λ P. gets-name (s .pre .1 .1) (small o) P k l) (λ P X. by-second k l (small o))
-    (single-same (c .before .key-of2 .ensures ∙ ap (λ (x : ℕ). keyOf x (1 * 2 ^ (o .before .before .role-of .result / 32) % 2 ^ 64)) (other-is o) ∙ ap (λ (x : ℕ). keyOf (otherIn (a .code)) x) (shift o)) (set-is o) (c .with-one2 .ensures))
+    (single-same (c .before .key-of2 .ensures ∙ ap (λ (x : ℕ). keyOf x (1 * 2 ^ (o .before .before .role-of .result / 32) % 2 ^ 64)) (partner-is o) ∙ ap (λ (x : ℕ). keyOf (otherIn (a .code)) x) (shift o)) (set-is o) (c .with-one2 .ensures))
 
 cast-set : tie.Need-cast-set
 cast-set c = search needs
@@ -175,14 +175,14 @@ returns-5 c = let e = c .before .before in
     subst⁻¹ (Plans o) (c .single2 .ensures ∙ ap (λ (x : ℕ). singleOf x 0 0) (set-is o))
     (planned-none (a .t) (a .code) (a .d) (s .pre .0) (s .pre .1 .0) (λ P. link-none (s .pre .1 .1) (small o) P (two (e .before)) (by-role e) (λ q. c .before .if5 .taken (ap ones (set-is o) ∙ q))))
 
-cast-role : tie.Need-cast-role
-cast-role c = record { fits = omega (arith, entity-low c) }
+cast-linked : tie.Need-cast-linked
+cast-linked c = record { fits = omega (arith, entity-low c) }
 
-mul-role : tie.Need-mul-role
-mul-role c = record { fits = omega (arith, entity-low c) }
+mul-linked : tie.Need-mul-linked
+mul-linked c = record { fits = omega (arith, entity-low c) }
 
-add-role : tie.Need-add-role
-add-role c = record { fits = omega (arith, entity-low c, link (c .before .before) .other-of .ensures .1) }
+add-linked : tie.Need-add-linked
+add-linked c = record { fits = omega (arith, entity-low c, link (c .before .before) .other-of .ensures .1) }
 
 start-at-requires-2 : tie.Need-start-at-requires-2
 start-at-requires-2 c κs = let s = first (link (c .before .before)) in (omega (arith, linked-is c, linked-low c), omega (arith, s .pre .0 .few, s .pre .1 .0 .low))
@@ -198,7 +198,7 @@ returns-6 c = let e = c .before .before in
     let a = s .args in
     let at = c .before .start-at2 .result in
     subst⁻¹ (Plans o) (c .walking2 .ensures ∙ ap (λ (x : ℕ). walkOf 2 x (a .d) at) (set-is o))
-    (planned-each (a .t) (a .code) (a .d) (s .pre .0) (s .pre .1 .0) 2 (trailingZeros 32 (setIn (key o)) * 32 + otherIn (a .code)) at (linked-low e) (walking-same (a .links .now) (a .t) at (own-is o) (linked-is e) (c .before .start-at2 .ensures)) (λ g. omega (arith, two f))
+    (planned-each (a .t) (a .code) (a .d) (s .pre .0) (s .pre .1 .0) 2 (trailingZeros 32 (setIn (key o)) * 32 + otherIn (a .code)) at (linked-low e) (walking-same (a .links .now) (a .t) at (role-is o) (linked-is e) (c .before .start-at2 .ensures)) (λ g. omega (arith, two f))
     (λ P. gets-link (s .pre .1 .1) (small o) P (two f) (by-role (e .before)) (sole-of e)) (λ P. by-link (s .pre .1 .1) (small o) P (two f) (by-role (e .before))))
 
 pub plan-spec : {M : Type 1} → statement M
@@ -229,9 +229,9 @@ plan-spec =
     cast-set
     single-requires-2
     returns-5
-    cast-role
-    mul-role
-    add-role
+    cast-linked
+    mul-linked
+    add-linked
     start-at-requires-2
     walking-requires-2
     returns-6)

@@ -1,4 +1,4 @@
--- `premises::start_at` starts at entry e where nothing after it is done and it has the role itself.
+-- `premises::start_at` starts at entry e where nothing after it is done and its role is the partner's.
 use mathlib.Core.Path.{_≡_, refl}
 use mathlib.Core.Logic.{inl, inr}
 use mathlib.Core.Bool.{Bool, true, false, _&&_}

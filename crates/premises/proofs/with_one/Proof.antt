@@ -4,6 +4,7 @@ use Prim.Native.Nat.{ℕ, _+_, _-_, _<_}
 use native.Mathlib.Omega.{arith}
 use borrow.Author.Needs.{needs}
 use lib.ListN.{getD}
+use Rattle.store.proofs.Searches.{leading}
 use Rattle.premises.specs.Moves.{Single}
 use Rattle.premises.proofs.Moving.{single-none, role-none, single-some}
 use Rattle.premises.proofs.with_one.Statement.{statement}
@@ -11,7 +12,7 @@ use Rattle.premises.proofs.with_one.Tie as tie
 
 -- the entry that was found
 low : (c : tie.Else2) → c .before .entry-of .result - 1 < c .before .before .before .before .before .args .n
-low c = c .before .entry-of .ensures .present (c .before .entry-of .result - 1) (omega (arith, c .if2 .left)) .0
+low c = let s = c .before .before .before .before .before in c .before .entry-of .ensures .entry (s .args .n) (s .pre .0 .searchable) .present (c .before .entry-of .result - 1) (omega (arith, c .if2 .left)) .0
 
 role-of-requires : tie.Need-role-of-requires
 role-of-requires c κs = search needs
@@ -36,15 +37,16 @@ returns c = let s = c .before .before .before .before in
     (single-none (a .done .now) (a .x) (a .d) (role-none (s .pre .0) (a .key) (s .pre .1) (omega (arith, z, c .before .if1 .taken))))
 
 entry-of-requires : tie.Need-entry-of-requires
-entry-of-requires c κs = let p = c .before .before .before .pre .0 in (p .searchable, (p .room .0, p .room .1, p .few))
+entry-of-requires c κs = let s = c .before .before .before in let p = s .pre .0 in (leading (s .args .keys .now) (s .args .slots .now) (s .args .n) (p .searchable) (p .few), (p .room .0, p .room .1))
 
 single-requires-2 : tie.Need-single-requires-2
 single-requires-2 c κs = search needs
 
 returns-2 : tie.Need-returns-2
-returns-2 c = let a = c .before .before .before .before .before .before .args in
+returns-2 c = let s = c .before .before .before .before .before .before in
+    let a = s .args in
     subst⁻¹ (λ m. Single (a .keys .now) (a .done .now) (a .n) (a .key) (a .x) (a .d) m) (c .single2 .ensures)
-    (single-none (a .done .now) (a .x) (a .d) (c .before .before .entry-of .ensures .absent (c .before .if2 .taken)))
+    (single-none (a .done .now) (a .x) (a .d) (c .before .before .entry-of .ensures .entry (a .n) (s .pre .0 .searchable) .absent (c .before .if2 .taken)))
 
 sub-single : tie.Need-sub-single
 sub-single c = search needs
@@ -65,7 +67,7 @@ returns-3 : tie.Need-returns-3
 returns-3 c = let s = c .before .before .before .before .before .before .before in
     let a = s .args in
     subst⁻¹ (λ m. Single (a .keys .now) (a .done .now) (a .n) (a .key) (a .x) (a .d) m) (c .single3 .ensures)
-    (single-some (s .pre .0) (a .done .now) (a .x) (a .d) (c .before .before .before .entry-of .ensures) (c .before .before .if2 .left))
+    (single-some (s .pre .0) (a .done .now) (a .x) (a .d) (c .before .before .before .entry-of .ensures .entry (a .n) (s .pre .0 .searchable)) (c .before .before .if2 .left))
 
 pub with-one-spec : {M : Type 1} → statement M
 with-one-spec =

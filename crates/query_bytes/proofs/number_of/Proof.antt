@@ -1,7 +1,7 @@
 -- `query_bytes::number_of` meets its contract.
 use mathlib.Core.Path.{sym, ap, _∙_}
 use Rattle.querying.specs.declared.Answer.{Answer}
-use Rattle.querying.specs.Querying.{says}
+use Rattle.querying.specs.Querying.{saysAnswer}
 use Rattle.replies.specs.Interface.{word}
 use Rattle.query_bytes.specs.Interface.{stepsAndLevel}
 use borrow.Author.Needs.{needs}
@@ -30,10 +30,10 @@ refusal-requires : tie.Need-refusal-requires
 refusal-requires c κs = search needs
 
 returns : tie.Need-returns
-returns c = sym (ap (λ (x : Answer). word stepsAndLevel (says x)) (c .before .answer .given .1))
+returns c = sym (ap (λ (x : Answer). word stepsAndLevel (saysAnswer x)) (c .before .answer .given .1))
 
 returns-2 : tie.Need-returns-2
-returns-2 c = c .refusal .ensures ∙ sym (ap (λ (x : Answer). word stepsAndLevel (says x)) (c .before .before .answer2 .given .1))
+returns-2 c = c .refusal .ensures ∙ sym (ap (λ (x : Answer). word stepsAndLevel (saysAnswer x)) (c .before .before .answer2 .given .1))
 
 pub number-of-spec : {M : Type 1} → statement M
 number-of-spec =

@@ -2,40 +2,28 @@
 use borrow.Author.Needs.{needs}
 use Rattle.querying.proofs.hand_out.Statement.{statement}
 use Rattle.querying.proofs.hand_out.Tie as tie
-use Rattle.querying.proofs.hand_out.Reads as reads
-use Rattle.querying.proofs.hand_out.Lts as lts
-use Rattle.answering.proofs.answer.Reads as answer-reads
-use Rattle.querying.proofs.level_of.Reads as level-of-reads
 
--- src/lib.rt:137:9
 answer-requires : tie.Need-answer-requires
-answer-requires c κs = let p = c .before .before .before .before .before .before .before .before .before .before .pre in let d = p .1 .1 in ((p .0 .0, p .0 .1, p .1 .0), ((d .0, d .1, d .2), (p .0 .2, d .3, d .4)))
+answer-requires c κs = let p = c .before .before .before .before .before .before .before .before .before .before .pre in let d = p .1 .1 in ((p .0 .0, p .0 .1, p .1 .0), ((d .0, d .1, d .2), (d .3, d .4)))
 
--- src/lib.rt:140:16
-cast-t22 : tie.Need-cast-t22
-cast-t22 c = search needs
+cast-t21 : tie.Need-cast-t21
+cast-t21 c = search needs
 
--- src/lib.rt:141:16
 level-of-requires : tie.Need-level-of-requires
 level-of-requires c κs = search needs
 
--- src/lib.rt:124:1
 same-length : tie.Need-same-length
 same-length c = c .before .before .before .before .before .before .before .before .before .answer .kept .0
 
--- src/lib.rt:124:1
 same-length-2 : tie.Need-same-length-2
 same-length-2 c = c .before .before .before .before .before .before .before .before .before .answer .kept .1 .0
 
--- src/lib.rt:124:1
 same-length-3 : tie.Need-same-length-3
 same-length-3 c = c .before .before .before .before .before .before .before .before .before .answer .kept .1 .1 .0
 
--- src/lib.rt:124:1
 same-length-4 : tie.Need-same-length-4
 same-length-4 c = c .before .before .before .before .before .before .before .before .before .answer .kept .1 .1 .1 .0
 
--- src/lib.rt:124:1
 returns : tie.Need-returns
 returns c = search needs
 
@@ -44,7 +32,7 @@ hand-out-spec =
     tie.close
     (tie.spec
     answer-requires
-    cast-t22
+    cast-t21
     level-of-requires
     same-length
     same-length-2

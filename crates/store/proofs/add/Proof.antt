@@ -3,6 +3,8 @@ use mathlib.Core.Path.{_≡_, refl, sym, _∙_}
 use Prim.Native.Nat.{_-_, _<_}
 use native.Mathlib.Omega.{arith}
 use lib.ListN.{getD, set}
+use Rattle.store.specs.Entries.{EntryOf}
+use Rattle.store.proofs.Searches.{leading, entry-at}
 use Rattle.store.proofs.Adding.{added-none, added-known, added-over, added-by}
 use borrow.Author.Needs.{needs}
 use Rattle.store.proofs.add.Statement.{statement}
@@ -15,9 +17,13 @@ found w = w .before .before
 abbrev start : tie.After-wide → tie.Start
 start w = found w .before .before .before .before
 
+-- the entry of the key, by the place where the search ended
+entry : (w : tie.After-wide) → EntryOf (start w .args .keys .now) (start w .args .n) (start w .args .key) (getD (start w .args .slots .now) (found w .find .result) 0)
+entry w = entry-at (start w .args .keys .now) (start w .args .slots .now) (start w .args .n) (start w .pre .0 .searchable) (found w .find .ensures)
+
 -- where that number is not 0, it leads to the entry of the key
 known : (c : tie.Then2) → (c .before .wide .result - 1 < start (c .before) .args .n) × (getD (start (c .before) .args .keys .now) (c .before .wide .result - 1) 0 ≡ start (c .before) .args .key)
-known c = found (c .before) .find .ensures .present (c .before .wide .result - 1) (omega (arith, c .before .wide .ensures .0, c .if2 .taken))
+known c = entry (c .before) .present (c .before .wide .result - 1) (omega (arith, c .before .wide .ensures .0, c .if2 .taken))
 
 returns : tie.Need-returns
 returns c =
@@ -26,7 +32,9 @@ returns c =
     added-none (a .limit) (a .key) (a .m) (a .keys .now) (a .spans .now) (a .slots .now) (a .links .now) (a .n) (h .0) (h .1 .1) (c .if1 .taken)
 
 find-requires : tie.Need-find-requires
-find-requires c κs = search needs
+find-requires c κs =
+    let s = c .before .before .before in
+    (leading (s .args .keys .now) (s .args .slots .now) (s .args .n) (s .pre .0 .searchable) (s .pre .0 .few), search needs)
 
 mul-wide : tie.Need-mul-wide
 mul-wide c = search needs
@@ -71,7 +79,7 @@ returns-3 c =
     let w = c .before .before in
     let a = start w .args in
     let h = start w .pre in
-    added-over (a .limit) (a .key) (a .m) (a .keys .now) (a .spans .now) (a .slots .now) (a .links .now) (a .n) (h .0) (h .1 .1) (c .if3 .taken) (found w .before .before .before .if1 .left) (found w .find .ensures .absent (sym (w .wide .ensures .0) ∙ c .before .if2 .left))
+    added-over (a .limit) (a .key) (a .m) (a .keys .now) (a .spans .now) (a .slots .now) (a .links .now) (a .n) (h .0) (h .1 .1) (c .if3 .taken) (found w .before .before .before .if1 .left) (entry w .absent (sym (w .wide .ensures .0) ∙ c .before .if2 .left))
 
 append-requires : tie.Need-append-requires
 append-requires c κs = search needs

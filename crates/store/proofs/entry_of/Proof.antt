@@ -1,5 +1,7 @@
 -- `store::entry_of` answers what stands in the slot where the search ends.
-use mathlib.Core.Path.{sym, _∙_}
+use mathlib.Core.Path.{subst⁻¹}
+use Rattle.store.specs.Entries.{EntryOf}
+use Rattle.store.proofs.Searches.{entry-at, slot-low}
 use borrow.Author.Needs.{needs}
 use Rattle.store.proofs.entry_of.Statement.{statement}
 use Rattle.store.proofs.entry_of.Tie as tie
@@ -18,9 +20,14 @@ wide-requires c κs = search needs
 
 returns : tie.Need-returns
 returns c =
-    let f = c .before .before .find .ensures in
+    let f = c .before .before in
+    let s = f .before in
+    let a = s .args in
     let e = c .wide .ensures .0 in
-    record { absent = λ z. f .absent (sym e ∙ z); present = λ i z. f .present i (sym e ∙ z) }
+    record {
+      within = slot-low (a .keys .now) (a .slots .now) (s .pre .0) (f .find .result) (c .wide .result) e;
+      entry = λ n o. subst⁻¹ (EntryOf (a .keys .now) n (a .key)) e (entry-at (a .keys .now) (a .slots .now) n o (f .find .ensures));
+    }
 
 pub entry-of-spec : {M : Type 1} → statement M
 entry-of-spec =

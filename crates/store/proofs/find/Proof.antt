@@ -1,5 +1,5 @@
 -- `store::find` ends where the search for the key comes to. The loop's invariant: wherever the search comes to from here, it comes to from its start.
--- The measure: places only rise, and stay below the slots of entry n.
+-- The measure: places only rise, and stay below 3,072.
 use mathlib.Core.Path.{subst}
 use Prim.Native.Nat.{ℕ, _+_, _-_, _*_, _/_, _%_, _≤_, _<_}
 use native.Mathlib.Omega.{arith}
@@ -9,21 +9,21 @@ use Rattle.store.proofs.find.Statement.{statement}
 use Rattle.store.proofs.find.Tie as tie
 
 abbrev Inv-loop : tie.InvT-loop
-Inv-loop keys slots n key x₀ p₀ x p = (p < 1024 + 2 * n) × ((q : ℕ) → Leads keys slots key p x q → Comes keys slots key q)
+Inv-loop keys slots key x₀ p₀ x p = (p < 3072) × ((q : ℕ) → Leads keys slots key p x q → Comes keys slots key q)
 
 abbrev μ-loop : tie.MeasureT-loop
-μ-loop keys slots n key x₀ p₀ x p = 1024 + 2 * n - p
+μ-loop keys slots key x₀ p₀ x p = 3072 - p
 
 -- the function's entry, from the loop's head
 abbrev start : tie.At-loop Inv-loop μ-loop → tie.Start Inv-loop μ-loop
 start l = l .before .before
 
--- past the first test: the slot's entry is one of the n, and its own slots come later
-used : (c : tie.Else1 Inv-loop μ-loop) → (c .before .wide .result ≤ start (c .before .before .before) .args .n) × (c .before .before .before .loop .p < 1022 + 2 * c .before .wide .result)
+-- past the first test: the slot has an entry, whose own slots come later
+used : (c : tie.Else1 Inv-loop μ-loop) → (c .before .wide .result ≤ 1024) × (c .before .before .before .loop .p < 1022 + 2 * c .before .wide .result)
 used c =
     let l = c .before .before .before in
     let a = start l .args in
-    slot-used (a .keys .now) (a .slots .now) (a .n) (start l .pre .0) (l .loop .p) (c .before .wide .result) (c .before .wide .ensures .0) (c .if1 .left)
+    slot-used (a .keys .now) (a .slots .now) (start l .pre .0) (l .loop .p) (c .before .wide .result) (c .before .wide .ensures .0) (c .if1 .left)
 
 mix-requires : tie.Need-mix-requires Inv-loop μ-loop
 mix-requires c κs = tt
@@ -46,7 +46,7 @@ returns : tie.Need-returns Inv-loop μ-loop
 returns c =
     let l = c .before .before .before in
     let a = start l .args in
-    at-empty (a .keys .now) (a .slots .now) (a .n) (start l .pre .0) (l .loop .p) (c .before .wide .result) (c .before .wide .ensures .0) (a .key) (start l .pre .1 .2) (l .loop .inv .0) (l .loop .inv .1 (l .loop .p) here) (c .if1 .taken)
+    at-empty (a .keys .now) (a .slots .now) (start l .pre .0) (l .loop .p) (c .before .wide .result) (c .before .wide .ensures .0) (a .key) (l .loop .inv .0) (l .loop .inv .1 (l .loop .p) here) (c .if1 .taken)
 
 sub-if2 : tie.Need-sub-if2 Inv-loop μ-loop
 sub-if2 c = omega arith
@@ -62,7 +62,7 @@ returns-2 c =
     let t = c .before .before in
     let l = t .before .before .before in
     let a = start l .args in
-    at-entry (a .keys .now) (a .slots .now) (a .n) (start l .pre .0) (l .loop .p) (t .before .wide .result) (t .before .wide .ensures .0) (a .key) (start l .pre .1 .2) (l .loop .inv .0) (l .loop .inv .1 (l .loop .p) here) (t .if1 .left) (c .if2 .taken)
+    at-entry (a .keys .now) (a .slots .now) (start l .pre .0) (l .loop .p) (t .before .wide .result) (t .before .wide .ensures .0) (a .key) (l .loop .inv .0) (l .loop .inv .1 (l .loop .p) here) (c .if2 .taken)
 
 mul-p : tie.Need-mul-p Inv-loop μ-loop
 mul-p c = let u = used (c .before .before) in omega arith

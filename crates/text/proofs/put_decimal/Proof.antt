@@ -2,7 +2,6 @@
 use native.Mathlib.Omega.{arith}
 use Rattle.text.proofs.Decimal.{decimal-length}
 use Rattle.text.proofs.Putting.{wider}
-use borrow.Author.Needs.{needs}
 use Rattle.text.proofs.put_decimal.Statement.{statement}
 use Rattle.text.proofs.put_decimal.Tie as tie
 

@@ -1,5 +1,5 @@
-use mathlib.Core.Path.{_∙_}
 -- `put_field` writes at most ten digits and one byte.
+use mathlib.Core.Path.{_∙_}
 use Rattle.text.proofs.Putting.{_then_}
 use borrow.Author.Needs.{needs}
 use Rattle.text.proofs.put_field.Statement.{statement}

@@ -1,10 +1,9 @@
 -- `entry_at` meets its contract: a refused file's answer is its refusal, another's is what `nth` finds.
 use mathlib.Core.Path.{_≡_, sym, ap, _∙_, subst}
 use borrow.Author.Needs.{needs}
+use Rattle.file.specs.Refusals.{refused}
 use Rattle.file.specs.declared.Refusal.{Refusal}
 use Rattle.walker.proofs.Places.{entry-refused, entry-found}
-use Rattle.walker.specs.declared.Entry as E
-use Rattle.walker.specs.declared.Entry.the-variants as A
 use Rattle.walker.proofs.entry_at.Statement.{statement}
 use Rattle.walker.proofs.entry_at.Tie as tie
 
@@ -15,7 +14,7 @@ returns : tie.Need-returns
 returns c =
     let a = c .before .before .before .before .args in
     let o = c .before .before .«open» .ensures in
-    ap (λ (r : Refusal). A.Refused (r .number) (r .place)) o
+    ap (λ (r : Refusal). refused (r .number) (r .place)) o
     ∙ sym (entry-refused (a .file .now) (a .at) (subst (λ (r : Refusal). r .number ≡ 0 → ⊥) o (c .if1 .taken)))
 
 nth-requires : tie.Need-nth-requires

@@ -1,0 +1,420 @@
+/* A caller that knows the header alone: makes each call and uses each inline function, and holds every reply and list against what document 01 says of
+   set P, worked out by hand. Prints the line of each expectation that fails, then how many there were. C99 and C++ both compile it. */
+#include <inttypes.h>
+#include <stdio.h>
+#include <string.h>
+
+#include "p.h"
+#include "rtt.h"
+
+enum { L = 8, MARK = 0xa5 };
+
+static unsigned expected, failed;
+
+#define EXPECT(condition) expect(__LINE__, (condition) ? 1 : 0, #condition)
+
+static void expect(int line, int holds, const char *condition)
+{
+    expected++;
+    if (holds)
+        return;
+    failed++;
+    printf("c/caller.c:%d: not so: %s\n", line, condition);
+}
+
+/* A list, with marks before and after it that no call may change; an odd number before it, so that it is not aligned. */
+typedef struct {
+    uint8_t before[65];
+    uint8_t bytes[8 * (RTT_ENTRIES + 1)];
+    uint8_t after[64];
+} list;
+
+static list a, b, c, d;
+
+static void mark(void)
+{
+    memset(&a, MARK, sizeof a);
+    memset(&b, MARK, sizeof b);
+    memset(&c, MARK, sizeof c);
+    memset(&d, MARK, sizeof d);
+}
+
+static int all(const uint8_t *bytes, size_t length, uint8_t value)
+{
+    size_t i = 0;
+    while (i < length && bytes[i] == value)
+        i++;
+    return i == length;
+}
+
+/* Everything around the list's first `length` bytes is as it was. */
+static int around(const list *l, size_t length)
+{
+    return all(l->before, sizeof l->before, MARK) && all(l->after, sizeof l->after, MARK)
+           && all(l->bytes + length, sizeof l->bytes - length, MARK);
+}
+
+static int untouched(const list *l)
+{
+    return around(l, 0);
+}
+
+static int zero(const list *l, size_t length)
+{
+    return around(l, length) && all(l->bytes, length, 0);
+}
+
+/* The entries, and zeros after them up to `length` bytes. */
+static int has(const list *l, size_t length, size_t count, const uint32_t *entries)
+{
+    size_t i = 0;
+    while (i < count && rtt_entry32(l->bytes, i) == entries[i])
+        i++;
+    return i == count && around(l, length) && all(l->bytes + 4 * count, length - 4 * count, 0);
+}
+
+static uint64_t refusal(uint64_t number, uint64_t place)
+{
+    return number * 4294967296u + place;
+}
+
+static uint64_t complete(const uint8_t *file, size_t length, size_t entries)
+{
+    mark();
+    return rtt_complete(file, length, a.bytes, 4 * entries, b.bytes, 4 * entries, c.bytes, 8 * entries);
+}
+
+static uint64_t query(const uint8_t *file, size_t length, uint32_t role, uint32_t set, uint32_t minute, size_t entries)
+{
+    mark();
+    return rtt_query(file, length, role, set, minute, a.bytes, 4 * entries, b.bytes, 4 * entries, c.bytes, 4 * entries, d.bytes, 4 * entries);
+}
+
+static uint64_t ends(const uint8_t *file, size_t length, size_t bytes)
+{
+    mark();
+    return rtt_ends(file, length, a.bytes, bytes);
+}
+
+static uint64_t intervals(const uint8_t *file, size_t length, uint64_t spans, size_t bytes)
+{
+    mark();
+    return rtt_intervals(file, length, spans, a.bytes, bytes);
+}
+
+/* K1's proof: {1} and {2} are in 0.0 by credentials 0 and 1, and so {1,2} is in 0.1 by credential 2. The last entry is no step. */
+static const uint8_t credential[] = {0, 0, 0, 0, 1, 0, 0, 0, 2, 0, 0, 0, 9, 9, 9, 9};
+static const uint8_t first[]      = {0, 0, 0, 0, 0, 0, 0, 0, 0, 0, 0, 0, 9, 9, 9, 9};
+static const uint8_t second[]     = {0, 0, 0, 0, 0, 0, 0, 0, 1, 0, 0, 0, 9, 9, 9, 9};
+static const uint8_t sets[]       = {2, 0, 0, 0, 4, 0, 0, 0, 6, 0, 0, 0, 9, 9, 9, 9};
+
+static uint64_t check(const uint8_t *file, size_t length, uint32_t role, uint32_t set, uint32_t minute, uint64_t steps)
+{
+    return rtt_check(file, length, role, set, minute, credential, sizeof credential, first, sizeof first, second, sizeof second,
+                     sets, sizeof sets, steps);
+}
+
+static void replies(void)
+{
+    uint64_t refused = refusal(15, 2), found = 3 + 2 * 65536;
+    EXPECT(rtt_ok(0) == 1 && rtt_ok(found) == 1 && rtt_ok(4294967295u) == 1);
+    EXPECT(rtt_ok(4294967296u) == 0 && rtt_ok(refused) == 0 && rtt_ok(refusal(13, 0)) == 0);
+    EXPECT(rtt_number(refused) == 15 && rtt_place(refused) == 2);
+    EXPECT(rtt_number(found) == 0 && rtt_place(found) == 0);
+    EXPECT(rtt_steps(found) == 3 && rtt_level(found) == 2);
+    EXPECT(rtt_steps(refused) == 0 && rtt_level(refused) == 0);
+    EXPECT(rtt_steps(1024 + 1024 * 65536) == 1024 && rtt_level(1024 + 1024 * 65536) == 1024);
+}
+
+static void texts(void)
+{
+    EXPECT(strcmp(rtt_refusal_text(0), "no refusal") == 0);
+    EXPECT(strcmp(rtt_refusal_text(13), "there is no proof") == 0);
+    EXPECT(strcmp(rtt_refusal_text(17), "not the number of a refusal") == 0);
+    EXPECT(strcmp(rtt_refusal_text(refusal(13, 0)), "not the number of a refusal") == 0);
+    EXPECT(strcmp(rtt_refusal_text(UINT64_MAX), "not the number of a refusal") == 0);
+    for (uint64_t i = 0; i <= 17; i++)
+        for (uint64_t k = 0; k < i; k++)
+            EXPECT(strcmp(rtt_refusal_text(i), rtt_refusal_text(k)) != 0);
+}
+
+static void names(void)
+{
+    EXPECT(RTT_FILE_TOO_SHORT == 1 && RTT_SIZES_OUT_OF_RANGE == 2 && RTT_WRONG_FILE_LENGTH == 3 && RTT_UNKNOWN_KIND == 4);
+    EXPECT(RTT_CREDENTIAL_OUT_OF_RANGE == 5 && RTT_BYTE_NOT_ZERO == 6 && RTT_EMPTY_PERIOD == 7 && RTT_TOO_MANY_ENDS == 8);
+    EXPECT(RTT_WRONG_LISTS == 9 && RTT_TOO_MANY_MEMBERSHIPS == 10 && RTT_REQUEST_OUT_OF_RANGE == 11 && RTT_NOT_A_MINUTE == 12);
+    EXPECT(RTT_NO_PROOF == 13 && RTT_WRONG_STEP_COUNT == 14 && RTT_WRONG_STEP == 15 && RTT_OTHER_MEMBERSHIP == 16);
+    EXPECT(rtt_number(query(P, sizeof P, rtt_role(0, 1), 6, 18, L)) == RTT_NO_PROOF);
+    switch (rtt_number(refusal(15, 2))) {
+    case RTT_WRONG_STEP:
+        break;
+    default:
+        EXPECT(0);
+    }
+}
+
+static void version(void)
+{
+    char text[32];
+    snprintf(text, sizeof text, "%d.%d.%d", RTT_VERSION_NUMBER / 10000, RTT_VERSION_NUMBER / 100 % 100, RTT_VERSION_NUMBER % 100);
+    EXPECT(strcmp(text, RTT_VERSION) == 0);
+    EXPECT(RTT_ENTRIES == 1024 && RTT_ENDS_BYTES == 64 * 4 && RTT_BOUNDS_BYTES == 32 * 2 * 4);
+}
+
+static void entries(void)
+{
+    static const uint8_t bytes[] = {9, 1, 2, 3, 4, 5, 6, 7, 8, 255, 255, 255, 255, 255, 255, 255, 255};
+    EXPECT(rtt_entry32(bytes + 1, 0) == 0x04030201u && rtt_entry32(bytes + 1, 1) == 0x08070605u);
+    EXPECT(rtt_entry32(bytes + 1, 3) == 4294967295u);
+    EXPECT(rtt_entry64(bytes + 1, 0) == UINT64_C(0x0807060504030201) && rtt_entry64(bytes + 1, 1) == UINT64_MAX);
+}
+
+/* 1.2 <- 0 in 0..10. The sum 0 * 32 + 34 is this role; 0.34 is none. */
+static void roles(void)
+{
+    static const uint8_t file[] = {2, 0, 3, 0, 1, 0, 0, 1, 2, 0, 0, 0, 0, 0, 0, 0, 0, 0, 10, 0, 0, 0};
+    EXPECT(rtt_role(0, 0) == 0 && rtt_role(0, 1) == 1 && rtt_role(1, 2) == 34 && rtt_role(31, 31) == 1023);
+    EXPECT(rtt_role(0, 32) == 4294967295u && rtt_role(0, 34) == 4294967295u && rtt_role(32, 0) == 4294967295u);
+    EXPECT(rtt_role(4294967296u, 0) == 4294967295u && rtt_role(0, UINT64_MAX) == 4294967295u);
+    EXPECT(query(file, sizeof file, rtt_role(1, 2), 1, 5, L) == 1 + 1 * 65536);
+    EXPECT(query(file, sizeof file, 0 * 32 + 34, 1, 5, L) == 1 + 1 * 65536);
+    EXPECT(query(file, sizeof file, rtt_role(0, 34), 1, 5, L) == refusal(11, 0));
+    EXPECT(check(file, sizeof file, rtt_role(0, 34), 1, 5, 1) == refusal(11, 0));
+    EXPECT(rtt_may_release(file, sizeof file, rtt_role(1, 2), 1, 5) == 1);
+    EXPECT(rtt_may_release(file, sizeof file, rtt_role(0, 34), 1, 5) == 0);
+}
+
+/* Memberships 0.0 {1}, 0.0 {2} and 0.1 {1,2}, in spans 14, 28 and 4. */
+static void completing(void)
+{
+    static const uint32_t in_roles[] = {0, 0, 1}, in_sets[] = {2, 4, 6}, in_spans[] = {14, 0, 28, 0, 4, 0};
+    EXPECT(complete(P, sizeof P, L) == 3);
+    EXPECT(has(&a, 4 * L, 3, in_roles) && has(&b, 4 * L, 3, in_sets) && has(&c, 8 * L, 6, in_spans) && untouched(&d));
+    EXPECT(rtt_entry64(c.bytes, 0) == 14 && rtt_entry64(c.bytes, 1) == 28 && rtt_entry64(c.bytes, 2) == 4);
+    EXPECT(complete(P, sizeof P, 3) == 3);
+    EXPECT(has(&a, 12, 3, in_roles) && has(&b, 12, 3, in_sets) && has(&c, 24, 6, in_spans));
+    EXPECT(complete(P, sizeof P, RTT_ENTRIES) == 3);
+    EXPECT(has(&a, 4096, 3, in_roles) && has(&b, 4096, 3, in_sets) && has(&c, 8192, 6, in_spans));
+    EXPECT(complete(P, sizeof P, 2) == refusal(10, 0));
+    EXPECT(zero(&a, 8) && zero(&b, 8) && zero(&c, 16));
+    EXPECT(complete(P, sizeof P, 0) == refusal(9, 0));
+    EXPECT(complete(P, sizeof P, RTT_ENTRIES + 1) == refusal(9, 0));
+    EXPECT(rtt_complete(P, sizeof P, a.bytes, 32, b.bytes, 32, c.bytes, 32) == refusal(9, 0));
+    EXPECT(rtt_complete(P, sizeof P, a.bytes, 33, b.bytes, 33, c.bytes, 66) == refusal(9, 0));
+    EXPECT(rtt_complete(P, sizeof P, NULL, 0, NULL, 0, NULL, 0) == refusal(9, 0));
+    EXPECT(untouched(&a) && untouched(&b) && untouched(&c));
+}
+
+/* K1's proof as handed out: the two steps of level 1 may come in either order, and so may those that the last cites. */
+static int is_k1(size_t length)
+{
+    uint32_t one = rtt_entry32(a.bytes, 0), cited = rtt_entry32(b.bytes, 2);
+    const uint32_t credentials[] = {one, 1 - one, 2}, firsts[] = {0, 0, cited}, seconds[] = {0, 0, 1 - cited};
+    const uint32_t results[] = {one == 0 ? 2u : 4u, one == 0 ? 4u : 2u, 6};
+    return one < 2 && cited < 2 && has(&a, length, 3, credentials) && has(&b, length, 3, firsts) && has(&c, length, 3, seconds)
+           && has(&d, length, 3, results);
+}
+
+static void querying(void)
+{
+    static const uint32_t nothing[] = {0}, one[] = {2};
+    uint32_t release = rtt_role(0, 1), reviewer = rtt_role(0, 0);
+    EXPECT(query(P, sizeof P, release, 6, 15, L) == 3 + 2 * 65536);
+    EXPECT(is_k1(4 * L));
+    EXPECT(query(P, sizeof P, release, 6, 17, 3) == 3 + 2 * 65536);
+    EXPECT(is_k1(12));
+    EXPECT(query(P, sizeof P, release, 6, 18, L) == refusal(13, 0));
+    EXPECT(zero(&a, 4 * L) && zero(&b, 4 * L) && zero(&c, 4 * L) && zero(&d, 4 * L));
+    EXPECT(query(P, sizeof P, release, 6, 14, L) == refusal(13, 0));
+    EXPECT(query(P, sizeof P, release, 2, 10, L) == refusal(13, 0));
+    EXPECT(query(P, sizeof P, release, 7, 15, L) == refusal(13, 0));
+    EXPECT(query(P, sizeof P, release, 6, 4294967294u, L) == refusal(13, 0));
+    EXPECT(query(P, sizeof P, reviewer, 2, 19, 2) == 1 + 1 * 65536);
+    EXPECT(has(&a, 8, 1, nothing) && has(&b, 8, 1, nothing) && has(&c, 8, 1, nothing) && has(&d, 8, 1, one));
+    EXPECT(query(P, sizeof P, reviewer, 2, 20, L) == refusal(13, 0));
+    EXPECT(query(P, sizeof P, release, 6, 15, 2) == refusal(10, 0));
+    EXPECT(zero(&a, 8) && zero(&b, 8) && zero(&c, 8) && zero(&d, 8));
+    EXPECT(query(P, sizeof P, release, 0, 15, L) == refusal(11, 0));
+    EXPECT(query(P, sizeof P, release, 8, 15, L) == refusal(11, 0));
+    EXPECT(query(P, sizeof P, rtt_role(0, 2), 6, 15, L) == refusal(11, 0));
+    EXPECT(query(P, sizeof P, rtt_role(3, 0), 6, 15, L) == refusal(11, 0));
+    EXPECT(query(P, sizeof P, release, 6, 4294967295u, L) == refusal(12, 0));
+    EXPECT(query(P, sizeof P, release, 0, 4294967295u, L) == refusal(11, 0));
+    EXPECT(query(P, sizeof P, release, 0, 15, 0) == refusal(9, 0));
+    EXPECT(untouched(&a) && untouched(&b) && untouched(&c) && untouched(&d));
+}
+
+static void checking(void)
+{
+    static const uint8_t unknown[] = {0, 0, 0, 0, 3, 0, 0, 0, 2, 0, 0, 0, 0, 0, 0, 0};
+    uint32_t release = rtt_role(0, 1), reviewer = rtt_role(0, 0);
+    EXPECT(check(P, sizeof P, release, 6, 15, 3) == 2);
+    EXPECT(check(P, sizeof P, release, 6, 17, 3) == 2);
+    EXPECT(check(P, sizeof P, release, 6, 18, 3) == refusal(15, 2));
+    EXPECT(check(P, sizeof P, release, 6, 14, 3) == refusal(15, 1));
+    EXPECT(check(P, sizeof P, release, 6, 9, 3) == refusal(15, 0));
+    EXPECT(check(P, sizeof P, reviewer, 2, 15, 1) == 1);
+    EXPECT(check(P, sizeof P, reviewer, 4, 15, 2) == 1);
+    EXPECT(check(P, sizeof P, reviewer, 2, 15, 3) == refusal(16, 0));
+    EXPECT(check(P, sizeof P, release, 7, 15, 3) == refusal(16, 0));
+    EXPECT(check(P, sizeof P, release, 6, 15, 4) == refusal(15, 3));
+    EXPECT(check(P, sizeof P, release, 6, 15, 0) == refusal(14, 0));
+    EXPECT(check(P, sizeof P, release, 6, 15, 5) == refusal(14, 0));
+    EXPECT(check(P, sizeof P, release, 6, 15, 4294967296u + 3) == refusal(14, 0));
+    EXPECT(check(P, sizeof P, release, 6, 4294967295u, 3) == refusal(12, 0));
+    EXPECT(check(P, sizeof P, release, 0, 15, 3) == refusal(11, 0));
+    EXPECT(rtt_check(P, sizeof P, release, 6, 15, unknown, sizeof unknown, first, sizeof first, second, sizeof second, sets,
+                     sizeof sets, 3) == refusal(15, 1));
+    EXPECT(rtt_check(P, sizeof P, release, 6, 15, credential, sizeof credential, first, sizeof first, second, sizeof second, sets,
+                     sizeof sets - 4, 3) == refusal(9, 0));
+    EXPECT(rtt_check(P, sizeof P, release, 6, 15, NULL, 0, NULL, 0, NULL, 0, NULL, 0, 3) == refusal(9, 0));
+}
+
+static void listing_ends(void)
+{
+    static const uint32_t in_ends[] = {0, 10, 15, 18, 20, 30};
+    EXPECT(ends(P, sizeof P, RTT_ENDS_BYTES) == 6);
+    EXPECT(has(&a, RTT_ENDS_BYTES, 6, in_ends));
+    EXPECT(ends(P, sizeof P, 252) == refusal(9, 0) && untouched(&a));
+    EXPECT(ends(P, sizeof P, 255) == refusal(9, 0) && untouched(&a));
+    EXPECT(ends(P, sizeof P, 257) == refusal(9, 0) && untouched(&a));
+    EXPECT(ends(P, sizeof P, 512) == refusal(9, 0) && untouched(&a));
+    EXPECT(rtt_ends(P, sizeof P, NULL, 0) == refusal(9, 0));
+}
+
+/* Spans 0 to 4 of P are 0..10, 10..15, 15..18, 18..20 and 20..30. */
+static void listing_intervals(void)
+{
+    static const uint32_t of_14[] = {10, 20}, of_28[] = {15, 30}, of_4[] = {15, 18}, of_31[] = {0, 30};
+    static const uint32_t of_5[] = {0, 10, 15, 18}, of_21[] = {0, 10, 15, 18, 20, 30}, of_27[] = {0, 15, 18, 30};
+    size_t whole = RTT_BOUNDS_BYTES;
+    EXPECT(intervals(P, sizeof P, 14, whole) == 1 && has(&a, whole, 2, of_14));
+    EXPECT(intervals(P, sizeof P, 28, whole) == 1 && has(&a, whole, 2, of_28));
+    EXPECT(intervals(P, sizeof P, 4, whole) == 1 && has(&a, whole, 2, of_4));
+    EXPECT(intervals(P, sizeof P, 31, whole) == 1 && has(&a, whole, 2, of_31));
+    EXPECT(intervals(P, sizeof P, 5, whole) == 2 && has(&a, whole, 4, of_5));
+    EXPECT(intervals(P, sizeof P, 21, whole) == 3 && has(&a, whole, 6, of_21));
+    EXPECT(intervals(P, sizeof P, 27, whole) == 2 && has(&a, whole, 4, of_27));
+    EXPECT(intervals(P, sizeof P, 0, whole) == 0 && zero(&a, whole));
+    EXPECT(intervals(P, sizeof P, 32, whole) == refusal(11, 0) && untouched(&a));
+    EXPECT(intervals(P, sizeof P, 36, whole) == refusal(11, 0) && untouched(&a));
+    EXPECT(intervals(P, sizeof P, UINT64_MAX, whole) == refusal(11, 0) && untouched(&a));
+    EXPECT(intervals(P, sizeof P, 14, whole - 8) == refusal(9, 0) && untouched(&a));
+    EXPECT(intervals(P, sizeof P, 14, whole + 1) == refusal(9, 0) && untouched(&a));
+    EXPECT(intervals(P, sizeof P, 32, whole - 1) == refusal(9, 0) && untouched(&a));
+    EXPECT(rtt_intervals(P, sizeof P, 14, NULL, 0) == refusal(9, 0));
+}
+
+static void releasing(void)
+{
+    uint32_t release = rtt_role(0, 1);
+    EXPECT(rtt_may_release(P, sizeof P, release, 6, 15) == 1);
+    EXPECT(rtt_may_release(P, sizeof P, release, 6, 17) == 1);
+    EXPECT(rtt_may_release(P, sizeof P, release, 6, 18) == 0);
+    EXPECT(rtt_may_release(P, sizeof P, release, 6, 14) == 0);
+    EXPECT(rtt_may_release(P, sizeof P, release, 6, 4294967295u) == 0);
+    EXPECT(rtt_may_release(P, sizeof P, release, 2, 15) == 0);
+    EXPECT(rtt_may_release(P, sizeof P, release, 7, 15) == 0);
+    EXPECT(rtt_may_release(P, sizeof P, release, 0, 15) == 0);
+    EXPECT(rtt_may_release(P, sizeof P, release, 14, 15) == 0);
+    EXPECT(rtt_may_release(P, sizeof P, rtt_role(0, 0), 6, 15) == 0);
+    EXPECT(rtt_may_release(P, sizeof P, rtt_role(0, 0), 2, 15) == 1);
+    EXPECT(rtt_may_release(P, sizeof P - 1, release, 6, 15) == 0);
+    EXPECT(rtt_may_release(NULL, 0, release, 6, 15) == 0);
+}
+
+/* A file without credentials. */
+static void empty(void)
+{
+    static const uint8_t file[] = {1, 0, 1, 0, 0, 0};
+    EXPECT(complete(file, sizeof file, 1) == 0 && zero(&a, 4) && zero(&b, 4) && zero(&c, 8));
+    EXPECT(query(file, sizeof file, 0, 1, 0, 1) == refusal(13, 0));
+    EXPECT(check(file, sizeof file, 0, 1, 0, 1) == refusal(15, 0));
+    EXPECT(ends(file, sizeof file, RTT_ENDS_BYTES) == 0 && zero(&a, RTT_ENDS_BYTES));
+    EXPECT(intervals(file, sizeof file, 0, RTT_BOUNDS_BYTES) == 0 && zero(&a, RTT_BOUNDS_BYTES));
+    EXPECT(intervals(file, sizeof file, 1, RTT_BOUNDS_BYTES) == refusal(11, 0) && untouched(&a));
+    EXPECT(rtt_may_release(file, sizeof file, 0, 1, 0) == 0);
+}
+
+/* All five calls refuse the file so, before they look at anything else, and leave the lists as they were. */
+static void refused_by_all(int line, const uint8_t *file, size_t length, uint64_t reply)
+{
+    uint64_t got[5];
+    int same = 1;
+    got[0] = complete(file, length, L);
+    same &= untouched(&a) && untouched(&b) && untouched(&c);
+    got[1] = query(file, length, 0, 0, 4294967295u, L);
+    same &= untouched(&a) && untouched(&b) && untouched(&c) && untouched(&d);
+    got[2] = check(file, length, 0, 0, 4294967295u, 0);
+    got[3] = ends(file, length, RTT_ENDS_BYTES);
+    same &= untouched(&a);
+    got[4] = intervals(file, length, UINT64_MAX, 0);
+    for (int i = 0; i < 5; i++)
+        expect(line, got[i] == reply, "each call refuses the file");
+    expect(line, same, "a refusal leaves the lists as they were");
+    expect(line, rtt_may_release(file, length, rtt_role(0, 1), 6, 15) == 0, "a refused file releases nothing");
+}
+
+/* P with one byte changed. */
+static void changed(int line, size_t place, uint8_t byte, uint64_t reply)
+{
+    uint8_t file[sizeof P];
+    memcpy(file, P, sizeof P);
+    file[place] = byte;
+    refused_by_all(line, file, sizeof file, reply);
+}
+
+/* P's statements begin at bytes 6, 14 and 22, its periods at 30, 38 and 46. */
+static void refused_files(void)
+{
+    refused_by_all(__LINE__, NULL, 0, refusal(1, 0));
+    refused_by_all(__LINE__, P, 5, refusal(1, 0));
+    refused_by_all(__LINE__, P, 6, refusal(3, 0));
+    refused_by_all(__LINE__, P, sizeof P - 1, refusal(3, 0));
+    changed(__LINE__, 0, 0, refusal(2, 0));
+    changed(__LINE__, 0, 33, refusal(2, 0));
+    changed(__LINE__, 2, 0, refusal(2, 0));
+    changed(__LINE__, 3, 1, refusal(2, 0));
+    changed(__LINE__, 5, 1, refusal(2, 0));
+    changed(__LINE__, 4, 4, refusal(3, 0));
+    changed(__LINE__, 14, 6, refusal(4, 1));
+    changed(__LINE__, 7, 3, refusal(5, 0));
+    changed(__LINE__, 9, 3, refusal(5, 0));
+    changed(__LINE__, 24, 2, refusal(5, 2));
+    changed(__LINE__, 11, 1, refusal(6, 0));
+    changed(__LINE__, 29, 1, refusal(6, 2));
+    changed(__LINE__, 30, 20, refusal(7, 0));
+    changed(__LINE__, 42, 15, refusal(7, 1));
+}
+
+/* 0.0 <- 0 in 33 periods 2i..2i+1: 66 ends. */
+static void too_many_ends(void)
+{
+    uint8_t file[6 + 16 * 33] = {1, 0, 1, 0, 33, 0};
+    for (uint8_t i = 0; i < 33; i++) {
+        file[6 + 8 * 33 + 8 * i] = (uint8_t)(2 * i);
+        file[6 + 8 * 33 + 8 * i + 4] = (uint8_t)(2 * i + 1);
+    }
+    refused_by_all(__LINE__, file, sizeof file, refusal(8, 0));
+}
+
+int main(void)
+{
+    replies();
+    texts();
+    names();
+    version();
+    entries();
+    roles();
+    completing();
+    querying();
+    checking();
+    listing_ends();
+    listing_intervals();
+    releasing();
+    empty();
+    refused_files();
+    too_many_ends();
+    printf("%u expectations, %u failed\n", expected, failed);
+    return failed != 0;
+}

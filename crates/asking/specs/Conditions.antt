@@ -1,0 +1,30 @@
+-- Document 01's conditions for refusals 9, 11 and 12 of a request, in propositions: when each is given.
+use mathlib.Core.Path.{_≡_}
+use mathlib.Core.List.{List}
+use Prim.Native.Nat.{ℕ, _/_, _%_, _<_, _≤_}
+use lib.ListN.{length}
+use Rattle.meaning.specs.Table.{bit}
+use Rattle.file.specs.Format.{E, R}
+use Rattle.file.specs.Conditions.{Accepted, Refused}
+use Rattle.asking.specs.Asking.{Request, StepLists, size}
+
+-- the four lists are of one length, from 1 to 1,024
+pub record OneLength (t : StepLists) : Type 0 where
+  pub first : length (t .first) ≡ size t
+  pub second : length (t .second) ≡ size t
+  pub sets : length (t .sets) ≡ size t
+  pub limits : (1 ≤ size t) × (size t ≤ 1024)
+
+-- the role's issuer is below E and its name below R; the set is not empty, and each of its entities is below E
+pub record Numbers (f : List ℕ) (q : Request) : Type 0 where
+  pub issuer : q .role / 32 < E f
+  pub name : q .role % 32 < R f
+  pub some : ¬ (q .set ≡ 0)
+  pub entities : (e : ℕ) → bit (q .set) e ≡ 1 → e < E f
+
+-- `RefusedRequest f q t n p`: the condition of refusal n holds at place p, and none above it does
+pub data RefusedRequest (f : List ℕ) (q : Request) (t : StepLists) : ℕ → ℕ → Type 0 where
+  file : {n p : ℕ} → Refused f n p → RefusedRequest f q t n p
+  lengths : Accepted f → ¬ OneLength t → RefusedRequest f q t 9 0
+  numbers : Accepted f → OneLength t → ¬ Numbers f q → RefusedRequest f q t 11 0
+  minute : Accepted f → OneLength t → Numbers f q → q .minute ≡ 4294967295 → RefusedRequest f q t 12 0

@@ -1,0 +1,20 @@
+-- The ends on bytes: one lent list of 256 bytes, 64 entries of 4 bytes.
+use mathlib.Core.Bool.{not}
+use mathlib.Core.List.{List, [], _∷_, _++_}
+use Prim.Native.Nat.{ℕ}
+use lib.Dec.{eqb}
+use lib.ListN.{length}
+use Rattle.meaning.specs.Table.{ends}
+use Rattle.file.specs.Refusals.{Outcome, first, _when_, left}
+use Rattle.file.specs.Format.{credentials}
+use Rattle.file.specs.Reading.{reading}
+use Rattle.survey.specs.Ends.{padded}
+use Rattle.codec.specs.Bytes.{bytesOf}
+
+-- 1 to 8, then 9 for any other length; on success the count of the ends
+unfoldable pub endsReply : List ℕ → List ℕ → Outcome ℕ
+endsReply f b = first (reading f ++ (9 when (not (eqb (length b) 256)) ∷ [])) (length (ends (credentials f)))
+
+-- the bytes as the call leaves them: on success the ends, and zeros after them
+unfoldable pub endsBytes : List ℕ → List ℕ → List ℕ
+endsBytes f b = left (endsReply f b) b (bytesOf 4 (padded 64 (ends (credentials f))))

@@ -1,0 +1,4 @@
+pub mod Bounds
+pub mod Replies
+pub mod Minutes
+pub mod Claims
