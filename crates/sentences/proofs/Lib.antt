@@ -1,0 +1,4 @@
+mod Strays
+mod Wording
+mod Naming
+pub mod Claims
