@@ -1,31 +1,26 @@
 // Reads a credentials file on standard input and prints how many memberships it has, then for each of their intervals a line of
-// issuer, name, set, from, to; or `refused`, number, place, with what that means on standard error.
+// issuer, name, set, from, to; or `refused`, number, place.
 use completing::Completed;
 
-// Each function that prints says whether it could.
-
-fn print_interval(role: u32, set: u32, from: u32, to: u32) -> bool {
+fn print_interval(role: u32, set: u32, from: u32, to: u32) {
     let mut line = [0u8; 128];
     let n = lines::interval_line(&mut line, role, set, from, to);
-    console::write_line(&line, n)
+    console::write_line(&line, n);
 }
 
-fn print_membership(file: &[u8], role: u32, set: u32, spans: u64) -> bool {
+fn print_membership(file: &[u8], role: u32, set: u32, spans: u64) {
     let v = ends::intervals_of(file, spans);
     let list = v.intervals;
     let count = v.count as usize;
     let mut i = 0;
     while i < 32 {
         if count <= i {
-            return true;
+            return;
         }
         let x = list[i];
-        if !print_interval(role, set, x.from, x.to) {
-            return false;
-        }
+        print_interval(role, set, x.from, x.to);
         i += 1;
     }
-    true
 }
 
 fn print_table(
@@ -40,9 +35,7 @@ fn print_table(
         if count <= i {
             return;
         }
-        if !print_membership(file, roles[i], sets[i], spans[i]) {
-            return;
-        }
+        print_membership(file, roles[i], sets[i], spans[i]);
         i += 1;
     }
 }
@@ -54,13 +47,11 @@ fn print_members(file: &[u8]) {
     let answer = completing::complete(file, &mut roles, &mut sets, &mut spans);
     match answer {
         Completed::Memberships(count) => {
-            if console::print_number(count) {
-                print_table(file, &roles, &sets, &spans, count as usize);
-            }
+            console::print_number(count);
+            print_table(file, &roles, &sets, &spans, count as usize);
         }
         Completed::Refused { number, place } => {
             console::print_refusal(number, place);
-            console::explain(file, number, place);
         }
     }
 }
@@ -68,15 +59,11 @@ fn print_members(file: &[u8]) {
 fn main() {
     if 1 < os::arg_count() {
         console::usage(
-            b"usage: rtt-members < FILE\nFILE is a credentials file. Prints how many memberships it has, then each interval: issuer, name, set, from, to.\n",
+            b"usage: members < FILE\nFILE is a credentials file. Prints how many memberships it has, then each interval: issuer, name, set, from, to.\n",
         );
         return;
     }
     let mut buffer = console::room();
-    let input = console::read(&mut buffer);
-    if input.failed {
-        return;
-    }
-    let n = input.count;
+    let n = console::read(&mut buffer);
     print_members(&buffer[..n]);
 }

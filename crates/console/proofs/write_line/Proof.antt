@@ -1,9 +1,9 @@
--- `write` is safe and ends: the bytes are within the whole.
+-- `write_line` is safe and ends: the bytes are within the line.
 use native.Mathlib.Omega.{arith}
 use lib.ListN.{length-take}
 use borrow.Author.Needs.{needs}
-use Rattle.console.proofs.write.Statement.{statement}
-use Rattle.console.proofs.write.Tie as tie
+use Rattle.console.proofs.write_line.Statement.{statement}
+use Rattle.console.proofs.write_line.Tie as tie
 
 slice-aggregate-write-all : tie.Need-slice-aggregate-write-all
 slice-aggregate-write-all c = simp length-take (omega arith)
@@ -14,5 +14,5 @@ write-all-requires c κs = search needs
 returns : tie.Need-returns
 returns c = search needs
 
-pub write-spec : {M : Type 1} → statement M
-write-spec = tie.close (tie.spec slice-aggregate-write-all write-all-requires returns)
+pub write-line-spec : {M : Type 1} → statement M
+write-line-spec = tie.close (tie.spec slice-aggregate-write-all write-all-requires returns)

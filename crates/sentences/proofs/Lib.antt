@@ -1,4 +1,0 @@
-mod Strays
-mod Wording
-mod Naming
-pub mod Claims

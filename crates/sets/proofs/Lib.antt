@@ -1,4 +1,0 @@
-mod Listing
-mod Scanning
-mod SetReading
-pub mod Claims
