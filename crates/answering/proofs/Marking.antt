@@ -7,7 +7,7 @@ use Prim.Native.Nat.{ℕ, zero, suc, _-_, _≤_, _<_}
 use native.Mathlib.Omega.{arith}
 use borrow.Author.Tests.{lt-ltb, le-ltb, ltb-true, ltb-false}
 use lib.Dec.{ltb}
-use lib.ListN.{length, getD, set, replicate, length-set}
+use lib.ListN.{length, getD, set, replicate, length-set, length-replicate}
 use lib.Seq.{getD-set-same, getD-set-other}
 use Rattle.meaning.specs.Lists.{if}
 use Rattle.meaning.proofs.ListLaws.{zeros-at}
@@ -143,18 +143,22 @@ spread-left notes i marks h = rw (le-ltb 0 (getD marks i 0) h)
 
 -- ---- at the start only entry x is marked
 
-pub one-marked : (notes : List ℕ) (x : ℕ) → x < 1024 → Marked notes x (suc x) (set (replicate 1024 0) x 1)
-one-marked notes x h =
+-- for a list of any length, so that none is written out
+first-mark : (n : ℕ) (notes : List ℕ) (x : ℕ) → n ≡ 1024 → x < n → Marked notes x (suc x) (set (replicate n 0) x 1)
+first-mark n notes x e h =
     record {
-      room = length-set (replicate 1024 0) x 1;
-      start = rw (getD-set-same {A = ℕ} (replicate 1024 0) x 1 0 h) (omega arith);
+      room = length-set (replicate n 0) x 1 ∙ length-replicate {A = ℕ} n 0 ∙ e;
+      start = rw (getD-set-same {A = ℕ} (replicate n 0) x 1 0 (omega (arith, length-replicate {A = ℕ} n 0))) (omega arith);
       rests = λ j m. subst (Rests notes x) (sym (sole j m)) itself;
       cited = λ j f l m c. absurd (omega (arith, sole j m));
     }
   where
-    sole : (j : ℕ) → 0 < getD (set (replicate 1024 0) x 1) j 0 → j ≡ x
+    sole : (j : ℕ) → 0 < getD (set (replicate n 0) x 1) j 0 → j ≡ x
     sole j m = go (equal-or-not j x)
       where
         go : (j ≡ x) ⊎ (j ≡ x → ⊥) → j ≡ x
         go (inl e) = e
-        go (inr ne) = absurd (let z : 0 < 0 = subst (λ (y : ℕ). 0 < y) (getD-set-other {A = ℕ} (replicate 1024 0) x j 1 0 ne ∙ zeros-at 1024 j) m in omega arith)
+        go (inr ne) = absurd (let z : 0 < 0 = subst (λ (y : ℕ). 0 < y) (getD-set-other {A = ℕ} (replicate n 0) x j 1 0 ne ∙ zeros-at n j) m in omega arith)
+
+pub one-marked : (notes : List ℕ) (x : ℕ) → x < 1024 → Marked notes x (suc x) (set (replicate 1024 0) x 1)
+one-marked notes x h = first-mark 1024 notes x refl h

@@ -1,14 +1,14 @@
 -- The marked entries as proof steps: their numbers, their words, and the lists that hold them.
 use mathlib.Core.Path.{_≡_}
-use mathlib.Core.Bool.{Bool}
 use mathlib.Core.List.{List, [], _∷_, _++_, map}
-use Prim.Native.Nat.{ℕ, zero, suc, _+_, _-_}
+use Prim.Native.Nat.{ℕ, zero, suc, _-_}
 use lib.Dec.{ltb}
-use lib.ListN.{length, getD, set, take, replicate}
+use lib.ListN.{length, getD, take, replicate}
 use Rattle.meaning.specs.Lists.{if, only}
 use Rattle.meaning.specs.Proofs.{Step}
 use Rattle.store.specs.Entries.{setIn}
 use Rattle.store.specs.Notes.{word}
+use Rattle.answering.specs.declared.Step as D
 
 -- the marked entries below i
 abbrev pub kept : List ℕ → ℕ → List ℕ
@@ -31,6 +31,11 @@ abbrev pub stepFrom : List ℕ → List ℕ → List ℕ → ℕ → Step
 stepFrom keys notes marks i =
     record { credential = word notes i 0; first = citedStep marks (word notes i 1); second = citedStep marks (word notes i 2); set = setIn (getD keys i 0) }
 
+-- and by a list of numbers
+abbrev pub stepIn : List ℕ → List ℕ → List ℕ → ℕ → D.Step
+stepIn keys notes numbers i =
+    record { credential = word notes i 0; first = citedIn numbers (word notes i 1); second = citedIn numbers (word notes i 2); set = setIn (getD keys i 0) }
+
 -- the steps of the marked entries below i
 unfoldable pub stepsBelow : List ℕ → List ℕ → List ℕ → ℕ → List Step
 stepsBelow keys notes marks i = map (stepFrom keys notes marks) (kept marks i)
@@ -42,15 +47,6 @@ pub record Held (ss : List Step) (credential first second sets : List ℕ) (k : 
   pub byFirst : take k first ≡ map (λ (s : Step). s .first) ss
   pub bySecond : take k second ≡ map (λ (s : Step). s .second) ss
   pub bySet : take k sets ≡ map (λ (s : Step). s .set) ss
-
--- what the turn of entry i leaves: where `b`, the entry as step k, with k as its number; otherwise all as before
-pub record StepWritten (b : Bool) (keys notes : List ℕ) (i k : ℕ) (numbers credential first second sets numbers′ credential′ first′ second′ sets′ : List ℕ) (r : ℕ) : Type 0 where
-  pub count : r ≡ if b (k + 1) k
-  pub numbered : numbers′ ≡ if b (set numbers i k) numbers
-  pub byCredential : credential′ ≡ if b (set credential k (word notes i 0)) credential
-  pub byFirst : first′ ≡ if b (set first k (citedIn numbers (word notes i 1))) first
-  pub bySecond : second′ ≡ if b (set second k (citedIn numbers (word notes i 2))) second
-  pub bySet : sets′ ≡ if b (set sets k (setIn (getD keys i 0))) sets
 
 -- the first k places of a list, and zeros after them
 abbrev pub upTo : ℕ → List ℕ → List ℕ

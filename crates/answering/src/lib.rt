@@ -1,12 +1,19 @@
 // Writing the proof of one entry: the steps on which it rests, and no others.
 ghost use mathlib.Core.Path.{_≡_};
 ghost use Prim.Native.Nat.{suc, _≤_, _<_};
-ghost use lib.Dec.{ltb};
-ghost use lib.ListN.{length, getD};
+ghost use lib.ListN.{length};
 ghost use Rattle.store.specs.Notes.{word};
 ghost use Rattle.answering.specs.Answering.{Citing, Answered};
 ghost use Rattle.answering.specs.Marks.{markedBy, spreadBy, Marked};
-ghost use Rattle.answering.specs.Steps.{citedIn, stepsBelow, Held, StepWritten, upTo};
+ghost use Rattle.answering.specs.Steps.{citedIn, stepIn, upTo};
+
+// A credential, the first and the second cited step, and the resulting set.
+struct Step {
+    credential: u32,
+    first: u32,
+    second: u32,
+    set: u32,
+}
 
 // Writes the steps on which entry x rests, from place 0 on, with zeros after them, and returns how many there are.
 pub fn answer(
@@ -22,7 +29,21 @@ pub fn answer(
     ensures { λ r. ⌜ Answered (now (keys .entry)) (now (notes .entry)) x (length (now (credential .entry))) (now (credential .exit)) (now (first .exit)) (now (second .exit)) (now (sets .exit)) r ⌝ }
 {
     let mut marks = needed(notes, x);
-    let k = write_steps(&mut marks, credential, first, second, sets, keys, notes, x);
+    let mut k = 0;
+    let mut i = 0;
+    while i <= x {
+        let j = i;
+        i += 1;
+        if marks[j] != 0 {
+            let s = step_of(&marks, keys, notes, j);
+            credential[k] = s.credential;
+            first[k] = s.first;
+            second[k] = s.second;
+            sets[k] = s.set;
+            marks[j] = k as u16;
+            k += 1;
+        }
+    }
     clear_from(credential, first, second, sets, k);
     k
 }
@@ -38,10 +59,18 @@ pub fn clear_from(
     requires { ⌜ (k ≤ length (now credential)) × (k ≤ length (now first)) × (k ≤ length (now second)) × (k ≤ length (now sets)) ⌝ }
     ensures { λ _. ⌜ (now (credential .exit) ≡ upTo k (now (credential .entry))) × (now (first .exit) ≡ upTo k (now (first .entry))) × (now (second .exit) ≡ upTo k (now (second .entry))) × (now (sets .exit) ≡ upTo k (now (sets .entry))) ⌝ }
 {
-    writing::clear32(&mut credential[k..]);
-    writing::clear32(&mut first[k..]);
-    writing::clear32(&mut second[k..]);
-    writing::clear32(&mut sets[k..]);
+    clear_tail(credential, k);
+    clear_tail(first, k);
+    clear_tail(second, k);
+    clear_tail(sets, k);
+}
+
+// Sets a list to zero from place k on.
+fn clear_tail(list: &mut [u32], k: usize)
+    requires { ⌜ k ≤ length (now list) ⌝ }
+    ensures { λ _. ⌜ now (list .exit) ≡ upTo k (now (list .entry)) ⌝ }
+{
+    writing::clear32(&mut list[k..]);
 }
 
 // Word k of entry i.
@@ -102,51 +131,15 @@ fn cited(numbers: &[u16; 1024], w: u16) -> u32
     }
 }
 
-// Writes entry i as step k where it is marked, and leaves k as its number; returns the next step's number.
-fn write_step(
-    numbers: &mut [u16; 1024],
-    credential: &mut [u32],
-    first: &mut [u32],
-    second: &mut [u32],
-    sets: &mut [u32],
-    keys: &[u64],
-    notes: &[u16],
-    i: usize,
-    k: usize,
-) -> usize
-    requires { ⌜ (length (now keys) ≡ 1024) × (length (now notes) ≡ 4096) × (i < 1024) × (k ≤ i) ⌝ ∗ ⌜ (word (now notes) i 1 ≤ i) × (word (now notes) i 2 ≤ i) ⌝ ∗ ⌜ (k < length (now credential)) × (k < length (now first)) × (k < length (now second)) × (k < length (now sets)) ⌝ }
-    ensures { λ r. ⌜ StepWritten (ltb 0 (getD (now (numbers .entry)) i 0)) (now (keys .entry)) (now (notes .entry)) i k (now (numbers .entry)) (now (credential .entry)) (now (first .entry)) (now (second .entry)) (now (sets .entry)) (now (numbers .exit)) (now (credential .exit)) (now (first .exit)) (now (second .exit)) (now (sets .exit)) r ⌝ }
+// Entry i as a step. An entry below i that is marked has its step's number in the list of marks.
+fn step_of(numbers: &[u16; 1024], keys: &[u64], notes: &[u16], i: usize) -> Step
+    requires { ⌜ (length (now keys) ≡ 1024) × (length (now notes) ≡ 4096) × (i < 1024) × (word (now notes) i 1 ≤ i) × (word (now notes) i 2 ≤ i) ⌝ }
+    ensures { λ r. ⌜ r ≡ stepIn (now (keys .entry)) (now (notes .entry)) (now (numbers .entry)) i ⌝ }
 {
-    if numbers[i] == 0 {
-        return k;
+    Step {
+        credential: store::wide(word_of(notes, i, 0)) as u32,
+        first: cited(numbers, word_of(notes, i, 1)),
+        second: cited(numbers, word_of(notes, i, 2)),
+        set: store::set_of(keys[i]) as u32,
     }
-    credential[k] = store::wide(word_of(notes, i, 0)) as u32;
-    first[k] = cited(numbers, word_of(notes, i, 1));
-    second[k] = cited(numbers, word_of(notes, i, 2));
-    sets[k] = (keys[i] % 4294967296) as u32;
-    numbers[i] = k as u16;
-    k + 1
-}
-
-// Writes the marked entries up to x as steps, and returns how many there are. The marks turn into the steps' numbers.
-fn write_steps(
-    marks: &mut [u16; 1024],
-    credential: &mut [u32],
-    first: &mut [u32],
-    second: &mut [u32],
-    sets: &mut [u32],
-    keys: &[u64],
-    notes: &[u16],
-    x: usize,
-) -> usize
-    requires { ⌜ (length (now keys) ≡ 1024) × (length (now notes) ≡ 4096) × (x < 1024) × Citing (now notes) (suc x) × Marked (now notes) x 0 (now marks) ⌝ ∗ ⌜ (x < length (now credential)) × (x < length (now first)) × (x < length (now second)) × (x < length (now sets)) ⌝ }
-    ensures { λ r. ⌜ Held (stepsBelow (now (keys .entry)) (now (notes .entry)) (now (marks .entry)) (suc x)) (now (credential .exit)) (now (first .exit)) (now (second .exit)) (now (sets .exit)) r ⌝ }
-{
-    let mut k = 0;
-    let mut i = 0;
-    while i <= x {
-        k = write_step(marks, credential, first, second, sets, keys, notes, i, k);
-        i += 1;
-    }
-    k
 }

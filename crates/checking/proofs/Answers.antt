@@ -2,14 +2,15 @@
 use mathlib.Core.Path.{_≡_, refl, sym, ap, _∙_, subst⁻¹}
 use mathlib.Core.Bool.{Bool, true, false, _&&_, not}
 use mathlib.Core.List.{List, [], _∷_, _++_, map}
-use Prim.Native.Nat.{ℕ, zero, suc, _+_, _-_, _<_, _≤_}
+use Prim.Native.Nat.{ℕ, zero, suc, _+_, _<_, _≤_}
 use native.Mathlib.Omega.{arith}
-use lib.Dec.{T, eqb, leb, leb→le, eqb→eq}
-use lib.ListN.{length, getD, take}
+use borrow.Author.Tests.{ltb-true, ltb-false}
+use lib.Dec.{T, eqb, leb, ltb, leb→le, eqb→eq}
+use lib.ListN.{length, take}
 use lib.Seq.{length-take-le}
-use Rattle.meaning.specs.Lists.{upFrom, below}
+use Rattle.meaning.specs.Lists.{if, upFrom, below}
 use Rattle.meaning.specs.Credentials.{Credential}
-use Rattle.meaning.specs.Proofs.{Shown, nothing, shownBy}
+use Rattle.meaning.specs.Proofs.{Shown}
 use Rattle.meaning.proofs.Tests.{and-left, and-right}
 use Rattle.file.specs.declared.Refusal.{Refusal}
 use Rattle.file.specs.Refusals.{RefusalRow, Outcome, done, refused, first, _at_when_}
@@ -18,10 +19,9 @@ use Rattle.file.specs.Format.{credentials}
 use Rattle.file.specs.Reading.{between}
 use Rattle.asking.specs.Asking.{Request, StepLists, stepIn, stepsIn, size, oneLength, asking, Askable}
 use Rattle.asking.proofs.Asked.{askable-passes, asked-refused, asked-passed, askable}
+use Rattle.checking.specs.declared.Kept.{Kept}
 use Rattle.checking.specs.Checking.{stepHolds, lastShown, lastRow, partBefore, proofRows, checking}
-use Rattle.steps.specs.Steps.{shownAt}
-use Rattle.checking.specs.Walks.{Walkable, Walked, concluding}
-use Rattle.steps.proofs.Counting.{getD-counted}
+use Rattle.checking.specs.Walks.{Walkable, Walked, concludedBy, concluding}
 
 -- ---- the rows of 15, where `test i` says that step i holds
 
@@ -81,27 +81,18 @@ module _ (cs : List Credential) (q : Request) (t : StepLists) (n : ℕ) where
     unfolding concluding
     level-last e = steps-pass (lastShown cs t n .level) holds n (lastRow cs q t n ∷ []) all ∙ rw e refl
 
-  module _ {roles levels : List ℕ} {r : ℕ} (w : Walked cs (q .minute) t n roles levels r) where
-    pub walk-broken : r < n → refused 15 r ≡ concluding cs q t n
-    walk-broken l = sym (broken-at r l (w .walking .kept) (w .stops l))
+  -- by how many steps keep the rules
+  module _ {k : Kept} (w : Walked cs (q .minute) t n k) where
+    pub walk-concludes : concludedBy k (q .role) (q .set) n ≡ concluding cs q t n
+    walk-concludes = go (ltb (k .count) n) refl
+      where
+        by-last : n ≤ k .count → (b : Bool) → asked q (record { role = k .role; set = k .set; level = k .level }) ≡ b → if b (done (k .level)) (refused 16 0) ≡ concluding cs q t n
+        by-last l true e = sym (level-last (λ j h. w .kept j (omega arith)) (ap (asked q) (sym (w .last l)) ∙ e) ∙ ap (λ (x : Shown). done (x .level)) (sym (w .last l)))
+        by-last l false e = sym (other-last (λ j h. w .kept j (omega arith)) (ap (asked q) (sym (w .last l)) ∙ e))
 
-    module _ (some : 1 ≤ n) (l : n ≤ r) where
-      whole : r ≡ n
-      whole = let h = w .within in omega arith
-
-      all : (j : ℕ) → j < n → holds j ≡ true
-      all j h = w .walking .kept j (omega arith)
-
-      last : lastShown cs t n ≡ shownAt roles (t .sets) levels (n - 1)
-      last =
-          ap (λ (k : ℕ). getD (shownBy cs [] (stepsIn t k)) (n - 1) nothing) (sym whole)
-          ∙ ap (λ (b : List Shown). getD b (n - 1) nothing) (sym (w .walking .shown)) ∙ getD-counted (shownAt roles (t .sets) levels) r (n - 1) nothing (omega arith)
-
-      pub walk-other : asked q (shownAt roles (t .sets) levels (n - 1)) ≡ false → refused 16 0 ≡ concluding cs q t n
-      walk-other e = sym (other-last all (ap (asked q) last ∙ e))
-
-      pub walk-level : asked q (shownAt roles (t .sets) levels (n - 1)) ≡ true → done (getD levels (n - 1) 0) ≡ concluding cs q t n
-      walk-level e = sym (level-last all (ap (asked q) last ∙ e) ∙ ap (λ (x : Shown). done (x .level)) last)
+        go : (b : Bool) → ltb (k .count) n ≡ b → if b (refused 15 (k .count)) (if (eqb (k .role) (q .role) && eqb (k .set) (q .set)) (done (k .level)) (refused 16 0)) ≡ concluding cs q t n
+        go true e = let l = ltb-true (k .count) n e in sym (broken-at (k .count) l (w .kept) (w .stops l))
+        go false e = by-last (ltb-false (k .count) n e) (eqb (k .role) (q .role) && eqb (k .set) (q .set)) refl
 
 -- ---- from the refusals of the request
 
@@ -133,8 +124,8 @@ module _ (f : List ℕ) (q : Request) (t : StepLists) (n : ℕ) where
         counted : (1 ≤ n) × (n ≤ size t)
         counted = let s : T (between 1 (size t) n) = subst⁻¹ T b tt in (leb→le 1 n (and-left (leb 1 n) (leb n (size t)) s), leb→le n (size t) (and-right (leb 1 n) (leb n (size t)) s))
 
-        pub walkable : {c : ℕ} {roles levels : List ℕ} → c ≤ 256 → length roles ≡ 1024 → length levels ≡ 1024 → Walkable c (partBefore n t) n roles levels × (1 ≤ n)
-        walkable m h k =
+        pub walkable : {c : ℕ} → c ≤ 256 → Walkable c (partBefore n t) n
+        walkable m =
             let a = askable f q t r e z in
             let s : T (oneLength t) = subst⁻¹ T (a .lists) tt in
             let x = eqb (length (t .first)) (size t) in
@@ -149,4 +140,4 @@ module _ (f : List ℕ) (q : Request) (t : StepLists) (n : ℕ) where
             let few = leb→le (size t) 1024 (and-right (leb 1 (size t)) (leb (size t) 1024) (and-right (x && y && v) u s)) in
             let c = counted in
             let part : (l : List ℕ) → length l ≡ size t → length (take n l) ≡ n = λ l o. length-take-le n l (omega arith) in
-            (record { credentials = m; credential = part (t .credential) refl; first = part (t .first) ef; second = part (t .second) es; sets = part (t .sets) ev; few = omega arith; rooms = (h, k) }, c .0)
+            record { credentials = m; credential = part (t .credential) refl; first = part (t .first) ef; second = part (t .second) es; sets = part (t .sets) ev; some = c .0; few = omega arith }

@@ -2,7 +2,7 @@
 use mathlib.Core.Path.{_≡_, refl, sym, ap, ap₂, _∙_, subst}
 use mathlib.Core.Bool.{true, false, _&&_}
 use mathlib.Core.List.{List, [], _∷_, _++_, map}
-use Prim.Native.Nat.{ℕ, suc, _+_, _<_, _≤_}
+use Prim.Native.Nat.{ℕ, suc, _+_, _-_, _<_, _≤_}
 use native.Mathlib.Nat.{not-suc-le-zero}
 use native.Mathlib.Numerals.{add-one}
 use native.Mathlib.Omega.{arith}
@@ -12,14 +12,14 @@ use lib.ListN.{length, getD, set, length-set}
 use lib.Seq.{getD-set-same, getD-set-other}
 use Rattle.meaning.specs.Lists.{below}
 use Rattle.meaning.specs.Credentials.{Credential, credentialAt}
-use Rattle.meaning.specs.Proofs.{Step, Shown, keeps, showing, shownBy}
+use Rattle.meaning.specs.Proofs.{Step, Shown, nothing, keeps, showing, shownBy}
 use Rattle.meaning.proofs.Proofs.{shown-append}
 use Rattle.asking.specs.Asking.{StepLists, stepIn, stepsIn}
-use Rattle.checking.specs.Checking.{stepHolds}
+use Rattle.checking.specs.Checking.{stepHolds, lastShown}
 use Rattle.steps.specs.Steps.{shownAt, shownIn, Known, Judges}
 use Rattle.steps.specs.declared.Judged.{Judged}
 use Rattle.checking.specs.Walks.{Walkable, Walking, Walked}
-use Rattle.steps.proofs.Counting.{length-counted, counted-snoc, counted-same}
+use Rattle.steps.proofs.Counting.{length-counted, counted-snoc, counted-same, getD-counted}
 
 module _ (cs : List Credential) (t : StepLists) where
   -- the credential of step i
@@ -46,10 +46,10 @@ module _ (roles sets levels : List ℕ) (i r l : ℕ) where
       ap₂ {C = Shown} (λ (x y : ℕ). record { role = x; set = getD sets i 0; level = y }) (getD-set-same roles i r 0 h) (getD-set-same levels i l 0 k)
 
 module _ (cs : List Credential) (m : ℕ) (t : StepLists) where
-  pub walking-none : {c n : ℕ} {roles levels : List ℕ} → Walkable c t n roles levels → Walking cs m t roles levels 0
-  walking-none k = record { rooms = k .rooms; kept = λ j h. absurd (not-suc-le-zero h); shown = refl; low = λ j h. absurd (not-suc-le-zero h) }
+  pub walking-none : (roles levels : List ℕ) → length roles ≡ 1024 → length levels ≡ 1024 → Walking cs m t roles levels 0
+  walking-none roles levels a b = record { rooms = (a, b); kept = λ j h. absurd (not-suc-le-zero h); shown = refl; low = λ j h. absurd (not-suc-le-zero h) }
 
-  pub known : {c n i : ℕ} {roles₀ levels₀ roles levels : List ℕ} → Walkable c t n roles₀ levels₀ → i < n → Walking cs m t roles levels i → Known (t .sets) levels i
+  pub known : {c n i : ℕ} {roles levels : List ℕ} → Walkable c t n → i < n → Walking cs m t roles levels i → Known (t .sets) levels i
   known k h w = let s = k .sets in let e = k .few in record { long = omega arith; few = omega arith; low = w .low }
 
   module _ {roles levels : List ℕ} {i : ℕ} (w : Walking cs m t roles levels i) {s : Step} {x : Judged} (same : s ≡ stepIn t i) (judged : Judges cs m (shownIn roles (t .sets) levels i) s x) where
@@ -60,8 +60,8 @@ module _ (cs : List Credential) (m : ℕ) (t : StepLists) where
     tested = sym (j .holds ∙ ap (λ (b : List Shown). ltb (stepIn t i .credential) (length cs) && keeps m (creditedAt cs t i) b (stepIn t i)) (w .shown))
 
     -- a step that breaks the rules
-    pub walk-stops : {n : ℕ} → i < n → x .holds ≡ false → Walked cs m t n roles levels i
-    walk-stops h e = record { within = omega arith; walking = w; stops = λ _. tested ∙ e }
+    pub walk-stops : {n role set level : ℕ} → i < n → x .holds ≡ false → Walked cs m t n (record { count = i; role = role; set = set; level = level })
+    walk-stops h e = record { within = omega arith; kept = w .kept; stops = λ _. tested ∙ e; last = λ l. absurd (omega arith) }
 
     -- a step that keeps them
     module _ (h : i < 1024) (e : x .holds ≡ true) where
@@ -89,5 +89,13 @@ module _ (cs : List Credential) (m : ℕ) (t : StepLists) where
                 (omega (arith, j .low, getD-set-same levels i (x .level) 0 (omega arith)));
           }
 
-  pub walk-ends : {n : ℕ} {roles levels : List ℕ} {i : ℕ} → n ≤ i → i ≤ n → Walking cs m t roles levels i → Walked cs m t n roles levels i
-  walk-ends h k w = record { within = k; walking = w; stops = λ l. absurd (omega arith) }
+  -- all keep them
+  module _ {n : ℕ} (some : 1 ≤ n) {roles levels : List ℕ} {i : ℕ} (h : n ≤ i) (k : i ≤ n) (w : Walking cs m t roles levels i) where
+    last-shown : shownAt roles (t .sets) levels (n - 1) ≡ lastShown cs t n
+    last-shown =
+        let whole : i ≡ n = omega arith in
+        sym (getD-counted (shownAt roles (t .sets) levels) i (n - 1) nothing (omega arith)) ∙ ap (λ (b : List Shown). getD b (n - 1) nothing) (w .shown)
+        ∙ ap (λ (k : ℕ). getD (shownBy cs [] (stepsIn t k)) (n - 1) nothing) whole
+
+    pub walk-ends : Walked cs m t n (record { count = i; role = getD roles (n - 1) 0; set = getD (t .sets) (n - 1) 0; level = getD levels (n - 1) 0 })
+    walk-ends = record { within = k; kept = w .kept; stops = λ l. absurd (omega arith); last = λ _. last-shown }

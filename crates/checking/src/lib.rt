@@ -2,18 +2,25 @@
 ghost use mathlib.Core.Path.{_≡_};
 ghost use Prim.Native.Nat.{_<_, _≤_};
 ghost use lib.ListN.{length};
-ghost use Rattle.file.specs.Refusals.{refused};
 ghost use Rattle.policy.specs.Policy.{credentialsOf};
 ghost use Rattle.asking.specs.Asking.{request, stepLists, stepIn};
 ghost use Rattle.steps.specs.Steps.{stepOf};
 ghost use Rattle.checking.specs.Checking.{checking, saysChecked};
-ghost use Rattle.checking.specs.Walks.{Walkable, Walked, concluding};
+ghost use Rattle.checking.specs.Walks.{Walkable, Walked, concludedBy};
 use steps::Step;
 
 // The level of a proof that follows the rules, or a refusal.
 pub enum Checked {
     Level(u32),
     Refused { number: u32, place: u32 },
+}
+
+// How many steps keep the rules before the first that does not; where all do, what the last one shows.
+struct Kept {
+    count: usize,
+    role: u32,
+    set: u32,
+    level: u32,
 }
 
 // Checks the first `steps` steps as a proof of the membership at the minute.
@@ -43,27 +50,28 @@ pub fn check(
         sets,
     );
     if j.number != 0 {
-        return refused(j.number, j.place);
+        return Checked::Refused {
+            number: j.number,
+            place: j.place,
+        };
     }
     if !((1 <= steps) & (steps <= credential.len())) {
-        return refused(14, 0);
+        return Checked::Refused {
+            number: 14,
+            place: 0,
+        };
     }
-    let mut roles = room();
-    let mut levels = room();
-    conclude(
-        &mut roles,
-        &mut levels,
+    let k = walk(
         &policy,
         j.credentials,
-        role,
-        set,
         minute,
         &credential[..steps],
         &first[..steps],
         &second[..steps],
         &sets[..steps],
         steps,
-    )
+    );
+    conclude(k, role, set, steps)
 }
 
 // Step i of the lists.
@@ -79,10 +87,8 @@ fn step_at(credential: &[u32], first: &[u32], second: &[u32], sets: &[u32], i: u
     }
 }
 
-// How many steps keep the rules before the first that does not. What they show is left in the lists.
+// The steps one after the other, up to the first that breaks the rules.
 fn walk(
-    roles: &mut [u32; 1024],
-    levels: &mut [u32; 1024],
     policy: &[u64; 512],
     n: usize,
     minute: u32,
@@ -91,72 +97,51 @@ fn walk(
     second: &[u32],
     sets: &[u32],
     steps: usize,
-) -> usize
-    requires { ⌜ Walkable n (stepLists (now credential) (now first) (now second) (now sets)) steps (now roles) (now levels) ⌝ }
-    ensures { λ r. ⌜ Walked (credentialsOf (now (policy .entry)) n) minute (stepLists (now (credential .entry)) (now (first .entry)) (now (second .entry)) (now (sets .entry))) steps (now (roles .exit)) (now (levels .exit)) r ⌝ }
+) -> Kept
+    requires { ⌜ Walkable n (stepLists (now credential) (now first) (now second) (now sets)) steps ⌝ }
+    ensures { λ r. ⌜ Walked (credentialsOf (now (policy .entry)) n) minute (stepLists (now (credential .entry)) (now (first .entry)) (now (second .entry)) (now (sets .entry))) steps r ⌝ }
 {
+    let mut roles = [0u32; 1024];
+    let mut levels = [0u32; 1024];
     let mut i = 0;
     while i < steps {
         let s = step_at(credential, first, second, sets, i);
-        let x = steps::judge_step(policy, n, minute, i, s, roles, sets, levels);
+        let x = steps::judge_step(policy, n, minute, i, s, &roles, sets, &levels);
         if !x.holds {
-            return i;
+            break;
         }
         roles[i] = x.role;
         levels[i] = x.level;
         i += 1;
     }
-    i
+    let last = steps - 1;
+    let role = roles[last];
+    let set = sets[last];
+    let level = levels[last];
+    Kept {
+        count: i,
+        role,
+        set,
+        level,
+    }
 }
 
 // 15, 16 or the level.
-fn conclude(
-    roles: &mut [u32; 1024],
-    levels: &mut [u32; 1024],
-    policy: &[u64; 512],
-    n: usize,
-    role: u32,
-    set: u32,
-    minute: u32,
-    credential: &[u32],
-    first: &[u32],
-    second: &[u32],
-    sets: &[u32],
-    steps: usize,
-) -> Checked
-    requires { ⌜ Walkable n (stepLists (now credential) (now first) (now second) (now sets)) steps (now roles) (now levels) ⌝ ∗ ⌜ 1 ≤ steps ⌝ }
-    ensures { λ r. ⌜ saysChecked r ≡ concluding (credentialsOf (now (policy .entry)) n) (request role set minute) (stepLists (now (credential .entry)) (now (first .entry)) (now (second .entry)) (now (sets .entry))) steps ⌝ }
+fn conclude(k: Kept, role: u32, set: u32, steps: usize) -> Checked
+    requires { ⌜ k .count ≤ 1024 ⌝ }
+    ensures { λ r. ⌜ saysChecked r ≡ concludedBy k role set steps ⌝ }
 {
-    let kept = walk(
-        roles,
-        levels,
-        policy,
-        n,
-        minute,
-        credential,
-        first,
-        second,
-        sets,
-        steps,
-    );
-    if kept < steps {
-        return refused(15, kept as u32);
+    if k.count < steps {
+        return Checked::Refused {
+            number: 15,
+            place: k.count as u32,
+        };
     }
-    let last = steps - 1;
-    if !((roles[last] == role) & (sets[last] == set)) {
-        return refused(16, 0);
+    if !((k.role == role) & (k.set == set)) {
+        return Checked::Refused {
+            number: 16,
+            place: 0,
+        };
     }
-    Checked::Level(levels[last])
-}
-
-fn refused(number: u32, place: u32) -> Checked
-    ensures { λ r. ⌜ saysChecked r ≡ refused number place ⌝ }
-{
-    Checked::Refused { number, place }
-}
-
-fn room() -> [u32; 1024]
-    ensures { λ r. ⌜ length r ≡ 1024 ⌝ }
-{
-    [0; 1024]
+    Checked::Level(k.level)
 }

@@ -1,5 +1,1 @@
-pub mod Falling
-pub mod Premises
-pub mod Families
-pub mod Giving
 pub mod Passes

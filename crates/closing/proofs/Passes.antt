@@ -9,9 +9,13 @@ use native.Mathlib.Omega.{arith}
 use lib.ListN.{getD}
 use Rattle.store.proofs.Chains.{equal-or-not}
 use Rattle.closure.specs.Closure.{Held, Finished}
-use Rattle.closing.specs.declared.Visit.{Visit}
-use Rattle.closing.specs.Closing.{Closes}
-use Rattle.closing.specs.Giving.{Gave, GaveAny, Still}
+use Rattle.meaning.specs.Table.{digit}
+use Rattle.giving.specs.declared.Visit.{Visit}
+use Rattle.giving.specs.Giving.{Closes, Gave}
+use Rattle.closing.specs.Passes.{GaveAny, Still}
+
+pub true-not-false : true ≡ false → ⊥
+true-not-false q = omega (arith, ap digit q)
 
 pub closes-none : {limit : ℕ} {codes valid lists keys spans slots links notes done : List ℕ} {n : ℕ} → n ≤ limit → Held keys spans slots links notes done n → Closes limit codes valid lists keys spans done n keys spans slots links notes done n
 closes-none few k = record { held = λ _. k; closed = λ _ ss p c. c; over = λ l. absurd (omega arith) }

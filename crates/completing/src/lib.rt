@@ -1,9 +1,9 @@
 // Completing the table: every membership of a credentials file with all spans in which the rules give it, in three lent lists.
 ghost use mathlib.Core.Path.{_≡_};
-ghost use lib.ListN.{length, replicate};
+ghost use lib.ListN.{length};
 ghost use Rattle.policy.specs.Policy.{credentialsOf};
 ghost use Rattle.tabling.specs.Tabling.{Loadable};
-ghost use Rattle.completing.specs.Completing.{lent, threeOfOneLength, tableEnding, completing, saysCompleted};
+ghost use Rattle.completing.specs.Completing.{lent, tableEnding, completing, saysCompleted};
 ghost use Rattle.completing.specs.Working.{lastEnding};
 
 // The count of memberships valid at one minute or more, or a refusal.
@@ -25,7 +25,7 @@ pub fn complete(file: &[u8], roles: &mut [u32], sets: &mut [u32], spans: &mut [u
             place: s.place,
         };
     }
-    if !of_one_length(roles, sets, spans) {
+    if !columns::of_one_length(roles.len(), sets.len(), spans.len()) {
         return Completed::Refused {
             number: 9,
             place: 0,
@@ -51,27 +51,11 @@ fn finish(
     let r = tabling::write_table(roles, sets, spans, policy, credentials, ends, count);
     let size = roles.len();
     if size < r {
-        clear(roles, sets, spans);
+        columns::clear(roles, sets, spans);
         return Completed::Refused {
             number: 10,
             place: 0,
         };
     }
     Completed::Memberships(r as u32)
-}
-
-fn of_one_length(roles: &[u32], sets: &[u32], spans: &[u64]) -> bool
-    ensures { λ r. ⌜ r ≡ threeOfOneLength (lent (now (roles .entry)) (now (sets .entry)) (now (spans .entry))) ⌝ }
-{
-    let n = roles.len();
-    (sets.len() == n) & (spans.len() == n) & ((1 <= n) & (n <= 1024))
-}
-
-// Sets the three lists to zeros.
-fn clear(roles: &mut [u32], sets: &mut [u32], spans: &mut [u64])
-    ensures { λ _. ⌜ now (roles .exit) ≡ replicate (length (now (roles .entry))) 0 ⌝ ∗ ⌜ now (sets .exit) ≡ replicate (length (now (sets .entry))) 0 ⌝ ∗ ⌜ now (spans .exit) ≡ replicate (length (now (spans .entry))) 0 ⌝ }
-{
-    writing::clear32(roles);
-    writing::clear32(sets);
-    writing::clear64(spans);
 }

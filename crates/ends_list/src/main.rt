@@ -1,12 +1,16 @@
-// Reads a credentials file on standard input and prints how many ends it has, then each on a line; or `refused`, number, place.
+// Reads a credentials file on standard input and prints how many ends it has, then each on a line; or `refused`, number, place, with what that
+// means on standard error.
 
 fn print_ends(file: &[u8]) {
     let e = ends::ends_of(file);
     if e.number != 0 {
         console::print_refusal(e.number, e.place);
+        console::explain(file, e.number, e.place);
         return;
     }
-    console::print_number(e.count);
+    if !console::print_number(e.count) {
+        return;
+    }
     let list = e.ends;
     let count = e.count as usize;
     let mut i = 0;
@@ -14,7 +18,9 @@ fn print_ends(file: &[u8]) {
         if count <= i {
             return;
         }
-        console::print_number(list[i]);
+        if !console::print_number(list[i]) {
+            return;
+        }
         i += 1;
     }
 }
@@ -22,11 +28,15 @@ fn print_ends(file: &[u8]) {
 fn main() {
     if 1 < os::arg_count() {
         console::usage(
-            b"usage: ends_list < FILE\nFILE is a credentials file. Prints how many ends its periods have, then each.\n",
+            b"usage: rtt-ends < FILE\nFILE is a credentials file. Prints how many ends its periods have, then each.\n",
         );
         return;
     }
     let mut buffer = console::room();
-    let n = console::read(&mut buffer);
+    let input = console::read(&mut buffer);
+    if input.failed {
+        return;
+    }
+    let n = input.count;
     print_ends(&buffer[..n]);
 }

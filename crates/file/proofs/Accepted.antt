@@ -20,7 +20,6 @@ use Rattle.file.specs.Values.{Read, valueOf, found, foundOf, foundIn}
 use Rattle.file.specs.Conditions.{Head, Good, Accepted}
 use Rattle.file.specs.declared.Body.{Body}
 use Rattle.file.specs.Refusals.{Outcome, numberOf}
-use Rattle.file.specs.declared.Credential as D
 use Rattle.file.specs.declared.Found.the-variants as F
 use Rattle.file.proofs.Uses.{by-kind}
 use Rattle.file.proofs.Faults.{fault-none}

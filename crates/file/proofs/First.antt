@@ -12,7 +12,7 @@ use Rattle.meaning.specs.Lists.{if, all, each}
 use Rattle.meaning.proofs.Tests.{and-in, and-left, and-right}
 use Rattle.file.specs.declared.Refusal.{Refusal}
 use Rattle.file.specs.Refusals.{RefusalRow, Outcome, done, refused, first}
-use Rattle.file.specs.Values.{refusalOf, firstRefusal, firstNumber, clear}
+use Rattle.file.specs.Values.{refusalOf, firstRefusal, firstNumber}
 
 -- the second answer where the first is no refusal
 abbrev pub after : {A B : Type 0} → Outcome A → Outcome B → Outcome B

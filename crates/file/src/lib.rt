@@ -1,13 +1,12 @@
-// The credentials file: its credentials as types, its sizes with refusals 1 to 3, and of one credential its period and refusals 4 to 7.
+// The credentials file: its credentials as types, its sizes with refusals 1 to 3, and of one credential its period.
 ghost use mathlib.Core.Path.{_≡_};
 ghost use Prim.Native.Nat.{_+_, _*_, _<_, _≤_};
 ghost use lib.ListN.{length};
 ghost use mathlib.Core.Bool.{_&&_};
-ghost use lib.Dec.{ltb};
 ghost use Rattle.meaning.specs.Credentials.{_·_};
-ghost use Rattle.file.specs.Format.{byte, two, four, E, R, N};
-ghost use Rattle.file.specs.Reading.{between, inRange, zeros, credentialRows};
-ghost use Rattle.file.specs.Values.{usedBy, headIn, noSizes, firstNumber, Headed, Stated, periodIn};
+ghost use Rattle.file.specs.Format.{two, four, N};
+ghost use Rattle.file.specs.Reading.{between};
+ghost use Rattle.file.specs.Values.{headIn, noSizes, Headed, periodIn};
 
 // An entity's number; never a role name's.
 pub struct Entity(pub u8);
@@ -64,10 +63,10 @@ pub struct Refusal {
 }
 
 // Which of s, c and t a kind uses. Every kind uses b.
-struct Used {
-    s: bool,
-    c: bool,
-    t: bool,
+pub struct Used {
+    pub s: bool,
+    pub c: bool,
+    pub t: bool,
 }
 
 // Refusals 1 to 3, and the sizes.
@@ -93,29 +92,6 @@ pub fn read_head(file: &[u8]) -> Head
         names,
         credentials: n,
     }
-}
-
-// The number of the first of refusals 4 to 7 that credential i has, or 0.
-pub fn fault(file: &[u8], h: Head, i: usize) -> u32
-    requires { ⌜ (Headed (now file) h) × (i < N (now file)) ⌝ }
-    ensures { λ r. ⌜ r ≡ firstNumber (credentialRows (now (file .entry)) i) ⌝ }
-{
-    if 5 < file[6 + 8 * i] {
-        return 4;
-    }
-    let e = h.entities;
-    let r = h.names;
-    if !in_range(file, i, e, r) {
-        return 5;
-    }
-    if !zeroed(file, i) {
-        return 6;
-    }
-    let v = read_period(file, h, i);
-    if v.until <= v.from {
-        return 7;
-    }
-    0
 }
 
 // The period of credential i.
@@ -156,17 +132,11 @@ fn four_at(file: &[u8], p: usize) -> u32
     low + 65536 * high
 }
 
-fn within(low: u32, high: u32, x: u32) -> bool
-    ensures { λ r. ⌜ r ≡ between low high x ⌝ }
-{
-    (low <= x) & (x <= high)
-}
-
 // The sizes are within the limits of refusal 2.
 fn sizes_fit(entities: u32, names: u32, credentials: u32) -> bool
     ensures { λ r. ⌜ r ≡ (between 1 32 entities && between 1 32 names && between 0 256 credentials) ⌝ }
 {
-    within(1, 32, entities) & within(1, 32, names) & within(0, 256, credentials)
+    ((1 <= entities) & (entities <= 32)) & ((1 <= names) & (names <= 32)) & (credentials <= 256)
 }
 
 fn no_sizes(number: u32) -> Head
@@ -178,67 +148,4 @@ fn no_sizes(number: u32) -> Head
         names: 0,
         credentials: 0,
     }
-}
-
-fn used_by(kind: u8) -> Used
-    ensures { λ r. ⌜ r ≡ usedBy kind ⌝ }
-{
-    match kind {
-        1 => Used {
-            s: true,
-            c: false,
-            t: false,
-        },
-        2 => Used {
-            s: true,
-            c: false,
-            t: true,
-        },
-        3..=5 => Used {
-            s: true,
-            c: true,
-            t: true,
-        },
-        _ => Used {
-            s: false,
-            c: false,
-            t: false,
-        },
-    }
-}
-
-fn below(file: &[u8], p: usize, limit: u32) -> bool
-    requires { ⌜ p < length (now file) ⌝ }
-    ensures { λ r. ⌜ r ≡ ltb (byte (now (file .entry)) p) limit ⌝ }
-{
-    widths::wide8(file[p]) < limit
-}
-
-// The entities and names that the kind uses are below e and r: A, r and b always, s, c and t where it uses them.
-fn in_range(file: &[u8], i: usize, e: u32, r: u32) -> bool
-    requires { ⌜ Stated (now file) i ⌝ ∗ ⌜ (e ≡ E (now file)) × (r ≡ R (now file)) ⌝ }
-    ensures { λ ok. ⌜ ok ≡ inRange (now (file .entry)) i ⌝ }
-{
-    let at = 6 + 8 * i;
-    let u = used_by(file[at]);
-    let entities = below(file, at + 1, e)
-        & below(file, at + 3, e)
-        & (!u.c | below(file, at + 5, e));
-    let names = below(file, at + 2, r)
-        & (!u.s | below(file, at + 4, r))
-        & (!u.t | below(file, at + 6, r));
-    entities & names
-}
-
-// The bytes that the kind does not use are zero, and byte 7 always is.
-fn zeroed(file: &[u8], i: usize) -> bool
-    requires { ⌜ Stated (now file) i ⌝ }
-    ensures { λ ok. ⌜ ok ≡ zeros (now (file .entry)) i ⌝ }
-{
-    let at = 6 + 8 * i;
-    let u = used_by(file[at]);
-    (u.s | (file[at + 4] == 0))
-        & (u.c | (file[at + 5] == 0))
-        & (u.t | (file[at + 6] == 0))
-        & (file[at + 7] == 0)
 }

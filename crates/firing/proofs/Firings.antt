@@ -11,9 +11,10 @@ use Rattle.store.specs.Entries.{keyOf, roleIn, latest, Grown}
 use Rattle.rules.specs.Uses.{Listed, familyIn, kindIn, otherIn, familyOf, kindOf, otherOf, bodiesIn}
 use Rattle.rules.proofs.UseLaws.{useAt, use-at-fits, use-at, use-family, use-kind, use-other, use-body, use-head}
 use Rattle.heads.specs.Gaining.{Spanned, Origin, Gains}
-use Rattle.heads.specs.Walks.{On, From}
+use Rattle.heads.specs.Walks.{On, From, Along}
 use Rattle.heads.specs.Heads.{Headed, FromHeads}
-use Rattle.heads.proofs.Gaining.{Within, gains-same}
+use Rattle.heads.proofs.Gaining.{Within, gains-by, gains-same}
+use Rattle.heads.proofs.Walks.{along-next, along-over}
 use Rattle.heads.proofs.Heads.{no-bit, from-heads-more, headed-more}
 use Rattle.closure.specs.Closure.{Found}
 use Rattle.premises.specs.declared.Turn.{Turn}
@@ -124,10 +125,10 @@ module _ (done : List ℕ) {keys spans keys′ spans′ : List ℕ} {n r : ℕ} 
     -- ---- by a body, and by the uses of a family
 
     module _ (codes valid lists : List ℕ) (d : ℕ) where
-      pub body-before : (i k s : ℕ) → ByBody codes valid lists keys′ done r e d i k s → ByBody codes valid lists keys done n e d i k s
+      body-before : (i k s : ℕ) → ByBody codes valid lists keys′ done r e d i k s → ByBody codes valid lists keys done n e d i k s
       body-before i = headed-more (λ X s w. (w .0, combined-before s _ _ _ X (w .1)))
 
-      pub body-after : (i k s : ℕ) → ByBody codes valid lists keys done n e d i k s → ByBody codes valid lists keys′ done r e d i k s
+      body-after : (i k s : ℕ) → ByBody codes valid lists keys done n e d i k s → ByBody codes valid lists keys′ done r e d i k s
       body-after i = headed-more (λ X s w. (w .0, combined-after s _ _ _ X (w .1)))
 
       pub fires-before : (family k s : ℕ) → Fires codes valid lists keys′ done r e d family k s → Fires codes valid lists keys done n e d family k s
@@ -159,7 +160,7 @@ module _ (done : List ℕ) {keys spans keys′ spans′ : List ℕ} {n r : ℕ} 
     -- ---- how it is noted
 
     module _ {codes lists : List ℕ} {family : ℕ} where
-      pub from-body : {body : ℕ} → body < bodiesIn lists → familyOf codes body ≡ family → Within (FromHeads codes lists body (e + 1) (Offers keys′ done r e (getD codes body 0))) (FromFamily codes lists keys done n e family)
+      from-body : {body : ℕ} → body < bodiesIn lists → familyOf codes body ≡ family → Within (FromHeads codes lists body (e + 1) (Offers keys′ done r e (getD codes body 0))) (FromFamily codes lists keys done n e family)
       from-body {body} l of k at first second w =
           record {
             body = body;
@@ -180,3 +181,18 @@ module _ {keys spans keys′ spans′ : List ℕ} {n r : ℕ} (g : Grown keys sp
 
   pub family-after : (e family : ℕ) → e < n → InFamily keys e family → InFamily keys′ e family
   family-after e family low = subst⁻¹ (λ (x : ℕ). (family ≡ roleIn x) ⊎ (family ≡ 1024 + roleIn x % 32)) (g .same e low)
+
+-- ---- a turn of the loop along the bodies of a family
+
+module _ {limit : ℕ} {keys spans notes : List ℕ} {n : ℕ} {codes valid lists done : List ℕ} {e family : ℕ} (d : ℕ) (fresh : (i : ℕ) → n ≤ i → getD done i 0 ≡ 0) (low : e < n) {keys′ spans′ slots′ links′ notes′ : List ℕ} {r c : ℕ} (a : Along limit keys spans notes n (familyOf codes) family (bodiesIn lists) (ByBody codes valid lists keys done n e d) (FromFamily codes lists keys done n e family) keys′ spans′ slots′ links′ notes′ r c) (nz : c ≡ 0 → ⊥) {keys″ spans″ slots″ links″ notes″ : List ℕ} {t : ℕ} (b : Gains limit keys′ spans′ notes′ r (ByBody codes valid lists keys′ done r e d (c - 1)) (FromHeads codes lists (c - 1) (e + 1) (Offers keys′ done r e (getD codes (c - 1) 0))) keys″ spans″ slots″ links″ notes″ t) where
+  grown : Grown keys spans n keys′ spans′ r
+  grown = a .gains .grown (a .few)
+
+  by : Gains limit keys′ spans′ notes′ r (ByBody codes valid lists keys′ done r e d (c - 1)) (FromFamily codes lists keys done n e family) keys″ spans″ slots″ links″ notes″ t
+  by = gains-by (from-body done grown fresh e low (a .on nz .0) (a .on nz .1)) b
+
+  pub fired-over : limit < t → Gains limit keys spans notes n (From (familyOf codes) family (bodiesIn lists) 0 (ByBody codes valid lists keys done n e d)) (FromFamily codes lists keys done n e family) keys″ spans″ slots″ links″ notes″ t
+  fired-over = along-over a nz by (body-before done grown fresh e low codes valid lists d (c - 1))
+
+  pub fired-next : {p : ℕ} → t ≤ limit → p ≡ latest (familyOf codes) family (c - 1) → Along limit keys spans notes n (familyOf codes) family (bodiesIn lists) (ByBody codes valid lists keys done n e d) (FromFamily codes lists keys done n e family) keys″ spans″ slots″ links″ notes″ t p
+  fired-next = along-next a nz by (body-before done grown fresh e low codes valid lists d (c - 1)) (body-after done grown fresh e low codes valid lists d (c - 1))

@@ -10,7 +10,7 @@ use Rattle.heads.specs.Gaining.{Gains}
 use Rattle.heads.specs.Heads.{Headed, Covering, FromHeads}
 use Rattle.heads.proofs.Gaining.{gains-same, gains-by}
 use Rattle.heads.proofs.Heads.{bit-both, bit-left, no-bit, from-heads-more, headed-more}
-use Rattle.pairs.specs.Pairs.{WithEach}
+use Rattle.portions.specs.Plans.{WithEach}
 use Rattle.premises.specs.declared.Move.{Move}
 use Rattle.premises.specs.Combining.{ByCode, Offers}
 use Rattle.premises.specs.Moves.{MoveSets, MoveWords, Planned}

@@ -10,7 +10,7 @@ ghost use Rattle.premises.specs.Combining.{InFamily, ByCode, Offers};
 ghost use Rattle.premises.specs.Moves.{Firing};
 ghost use Rattle.firing.specs.Firing.{Fires, FromFamily};
 use heads::Gift;
-use pairs::Plan;
+use portions::Plan;
 use premises::Turn;
 use waiting::Offer;
 
@@ -80,7 +80,7 @@ fn fire_body(
     if d == 0 {
         return n;
     }
-    let m = premises::plan(keys, slots, links, done, codes[body], n, t, d);
+    let m = premises::plan(keys, slots, links, done, codes[body], t, d);
     let offer = m.offer;
     if offer.spans == 0 {
         return n;

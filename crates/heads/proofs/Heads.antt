@@ -15,10 +15,10 @@ use Rattle.store.specs.Entries.{keyOf, latest}
 use Rattle.store.proofs.Chains.{latest-none}
 use Rattle.rules.specs.Uses.{Listed, bodyOfHead, headOf, headsIn}
 use Rattle.heads.specs.Gaining.{Spanned, Origin, Kept, Gains}
-use Rattle.heads.specs.Walks.{On, From}
+use Rattle.heads.specs.Walks.{On, From, Along}
 use Rattle.heads.specs.Heads.{One, ByHead, Headed, Coverings, firstBy, secondBy, FromHead, FromHeads, TheOne}
-use Rattle.heads.proofs.Gaining.{Within, gains-none, gains-same}
-use Rattle.heads.proofs.Walks.{on-latest, passed}
+use Rattle.heads.proofs.Gaining.{Within, gains-none, gains-by, gains-same}
+use Rattle.heads.proofs.Walks.{on-latest, passed, along-next, along-over}
 
 -- ---- bits of both numbers
 
@@ -130,3 +130,14 @@ module _ {codes valid lists : List ℕ} {body : ℕ} where
           gains-same
           (λ k s w. record { head = w .item; low = w .low; of = w .of; spans = bit-right m (getD valid (w .item) 0) s (w .gives .1); set = set; given = (refl, bit-left m (getD valid (w .item) 0) s (w .gives .1)); key = w .gives .0 })
           (λ k s w. record { item = w .head; past = zero-le; low = w .low; of = w .of; gives = (w .key ∙ ap (keyOf (headOf codes (w .head))) (w .given .0), bit-both m (getD valid (w .head) 0) s (w .given .1) (w .spans)) })
+
+-- a turn of that loop
+module _ {limit : ℕ} {keys spans notes : List ℕ} {n : ℕ} {codes lists : List ℕ} {body own other : ℕ} (valid : List ℕ) (set m : ℕ) {keys′ spans′ slots′ links′ notes′ : List ℕ} {r c : ℕ} (a : Along limit keys spans notes n (bodyOfHead codes) body (headsIn lists) (ByHead codes valid set m) (FromHeads codes lists body own (TheOne set other)) keys′ spans′ slots′ links′ notes′ r c) (nz : c ≡ 0 → ⊥) {keys″ spans″ slots″ links″ notes″ : List ℕ} {t : ℕ} (b : Gains limit keys′ spans′ notes′ r (ByHead codes valid set m (c - 1)) (FromHead codes lists own other set (c - 1)) keys″ spans″ slots″ links″ notes″ t) where
+  by : Gains limit keys′ spans′ notes′ r (ByHead codes valid set m (c - 1)) (FromHeads codes lists body own (TheOne set other)) keys″ spans″ slots″ links″ notes″ t
+  by = gains-by (from-head (a .on nz .0) (a .on nz .1)) b
+
+  pub heads-over : limit < t → Gains limit keys spans notes n (Headed codes valid lists body (One set m)) (FromHeads codes lists body own (TheOne set other)) keys″ spans″ slots″ links″ notes″ t
+  heads-over l = headed-all set m (along-over a nz by (λ k s w. w) l)
+
+  pub heads-turn : {p : ℕ} → t ≤ limit → p ≡ latest (bodyOfHead codes) body (c - 1) → Along limit keys spans notes n (bodyOfHead codes) body (headsIn lists) (ByHead codes valid set m) (FromHeads codes lists body own (TheOne set other)) keys″ spans″ slots″ links″ notes″ t p
+  heads-turn = along-next a nz by (λ k s w. w) (λ k s w. w)

@@ -1,15 +1,14 @@
 -- What a query says where the file is accepted, the request is in range and the memberships at the minute fit the lists.
-use mathlib.Core.Path.{_≡_, refl, sym, ap, _∙_, subst, subst⁻¹}
-use mathlib.Core.Logic.{_↔_}
+use mathlib.Core.Path.{_≡_, refl, sym, ap, _∙_, subst⁻¹}
 use mathlib.Core.Bool.{Bool, true, false, _&&_, not}
 use mathlib.Core.List.{List, [], _∷_, _++_, map}
-use Prim.Native.Nat.{ℕ, zero, suc, _-_, _≤_, _<_}
+use Prim.Native.Nat.{ℕ, _-_, _≤_, _<_}
 use native.Mathlib.Omega.{arith}
 use borrow.Author.Tests.{le-ltb}
-use lib.Dec.{T, eqb, ltb}
+use lib.Dec.{T, eqb}
 use lib.ListN.{length, getD, replicate, length-append, length-map, length-replicate}
 use Rattle.meaning.specs.Credentials.{FitsAll}
-use Rattle.meaning.specs.Members.{Membership, member, has, members, leastLevel}
+use Rattle.meaning.specs.Members.{Membership, member, has, members}
 use Rattle.meaning.specs.Proofs.{Step, Shown, Proof, shownBy}
 use Rattle.meaning.proofs.Tests.{is-true, is-false}
 use Rattle.meaning.proofs.OrderLaws.{has-in, has-out}
@@ -19,10 +18,10 @@ use Rattle.file.specs.Refusals.{Outcome, done, refused, first, left}
 use Rattle.file.specs.Format.{credentials}
 use Rattle.file.specs.Reading.{between}
 use Rattle.file.proofs.Claims.{within-format}
-use Rattle.asking.specs.Asking.{Request, StepLists, stepLists, stepIn, stepsIn, size, oneLength, Askable}
+use Rattle.asking.specs.Asking.{Request, StepLists, stepIn, stepsIn, size, oneLength, Askable}
 use Rattle.asking.proofs.Asked.{askable-passes}
 use Rattle.derivation.specs.HandedOut.{HandedOut, words}
-use Rattle.querying.specs.Querying.{Counts, counts, minuteFullRow, noneRow, levelFor, replyWith, QueryEnding, queryEnding, querying, Queried}
+use Rattle.querying.specs.Querying.{Counts, counts, minuteFullRow, noneRow, levelFor, replyWith, QueryEnding, querying, Queried}
 use Rattle.querying.proofs.Working.{same-lengths}
 use Rattle.checking.specs.Checking.{checking}
 use Rattle.checking.proofs.Claims.{passes-exactly}

@@ -15,7 +15,7 @@ use Rattle.querying.specs.declared.Answer.the-variants as A
 use Rattle.checking.specs.Checking as Checking
 use Rattle.checking.specs.Checking.{checking}
 use Rattle.joint.specs.declared.Replies.{Replies}
-use Rattle.joint.specs.Joint.{InRange, SomeProof, Given}
+use Rattle.joint.specs.Joint.{InRange}
 use Rattle.joint.specs.Calls.{stepsOf, AsDemanded, Together}
 use Rattle.joint.proofs.Claims.{demand-3}
 

@@ -5,7 +5,6 @@ use mathlib.Core.Bool.{true}
 use mathlib.Core.List.{List, [], _∷_}
 use Prim.Native.Nat.{ℕ, _≤_}
 use native.Mathlib.Omega.{arith}
-use lib.ListN.{length}
 use Rattle.meaning.specs.Credentials.{_·_}
 use Rattle.meaning.specs.Members.{closure}
 use Rattle.meaning.specs.Table.{bit, table}

@@ -1,17 +1,15 @@
 -- What a completed table says: the file is accepted, and the lists hold the table.
-use mathlib.Core.Path.{_≡_, refl, sym, ap, _∙_, subst, subst⁻¹}
+use mathlib.Core.Path.{_≡_, sym, ap, _∙_, subst, subst⁻¹}
 use mathlib.Core.Logic.{_↔_}
-use mathlib.Core.Bool.{Bool, true, false, _&&_, not}
-use mathlib.Core.List.{List, [], _∷_, _++_, map, List·Memᴰ as Mem}
+use mathlib.Core.Bool.{true, _&&_, not}
+use mathlib.Core.List.{List, [], _∷_, _++_, map}
 use Prim.Native.Nat.{ℕ, _-_, _≤_, _<_}
-use native.Mathlib.Nat.{lt-of-not-le, le-of-suc-le-suc}
 use native.Mathlib.Omega.{arith}
 use borrow.Author.Tests.{ltb-false}
-use lib.Dec.{T, ltb, T-not, lt→ltb}
+use lib.Dec.{T, ltb, T-not}
 use lib.ListN.{length, getD, length-map}
-use Rattle.meaning.specs.Lists.{below}
 use Rattle.meaning.specs.Credentials.{Credential, FitsAll}
-use Rattle.meaning.specs.Members.{Membership, member, members}
+use Rattle.meaning.specs.Members.{member, members}
 use Rattle.meaning.specs.Table.{Row, ends, table, written}
 use Rattle.meaning.proofs.Tests.{and-left, and-right, is-false}
 use Rattle.meaning.proofs.ListLaws.{map-in, cast}
@@ -19,11 +17,11 @@ use Rattle.meaning.proofs.SortLaws.{Within, within-length}
 use Rattle.meaning.proofs.OrderLaws.{memberships}
 use Rattle.meaning.proofs.Least.{provable-derivable}
 use Rattle.meaning.proofs.Rows.{key, members-ascending, members-derivable, written-at, written-derivable, table-ascending}
-use Rattle.file.specs.Refusals.{Outcome, done, refused, first, left}
+use Rattle.file.specs.Refusals.{Outcome, done, refused, left}
 use Rattle.file.specs.Format.{credentials}
 use Rattle.file.specs.Reading.{reading}
 use Rattle.file.specs.Conditions.{Accepted}
-use Rattle.file.proofs.First.{noneHolds, first-holds, holds-first, not-not}
+use Rattle.file.proofs.First.{noneHolds, first-holds, holds-first}
 use Rattle.file.proofs.Refusals.{accepted-exact}
 use Rattle.file.proofs.Accepted.{accepted-fits}
 use Rattle.asking.specs.Asking.{Request}

@@ -2,7 +2,7 @@
 -- `completing`, `Queried` and `checking` are what the contracts of the three calls say of their replies and lists. One file f stands in all three.
 use mathlib.Core.Path.{_≡_}
 use mathlib.Core.Logic.{_↔_}
-use mathlib.Core.Bool.{Bool, true}
+use mathlib.Core.Bool.{true}
 use mathlib.Core.List.{List, map}
 use Prim.Native.Nat.{ℕ, _≤_}
 use lib.Dec.{T}

@@ -16,7 +16,7 @@ use Rattle.rules.specs.Uses.{familyIn, kindIn, otherIn, sourceIn}
 use Rattle.heads.specs.Heads.{firstBy, secondBy}
 use Rattle.heads.proofs.Heads.{from-heads-more}
 use Rattle.premises.specs.Combining.{Combined, Keyed, Offers}
-use Rattle.closing.specs.Giving.{FromEntry}
+use Rattle.giving.specs.Giving.{FromEntry}
 
 -- ---- the keys of entry e and of the first n entries stay
 

@@ -19,7 +19,7 @@ use Rattle.store.proofs.Notes.{word-same, level-same}
 use Rattle.heads.specs.Gaining.{Noted}
 use Rattle.closure.specs.Closure.{Held, Found, Policy, Closed}
 use Rattle.premises.specs.Combining.{Keyed}
-use Rattle.closing.specs.Giving.{FromEntry, Gave}
+use Rattle.giving.specs.Giving.{FromEntry, Gave}
 use Rattle.levels.specs.Levels.{AtStart, NotedBy, Premises, OneSpan, HasUpTo, Leveling, FiredAll}
 use Rattle.levels.proofs.Citing.{from-entry-same, given-level}
 use Rattle.levels.proofs.Spans.{has-span, keyed-found}

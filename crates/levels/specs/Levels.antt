@@ -10,7 +10,7 @@ use Rattle.store.specs.Notes.{word, levelOf}
 use Rattle.rules.specs.Uses.{Listed, Formed}
 use Rattle.closure.specs.Closure.{Held, Policy, TooMany, Closed}
 use Rattle.premises.specs.Combining.{Keyed}
-use Rattle.closing.specs.Giving.{FromEntry}
+use Rattle.giving.specs.Giving.{FromEntry}
 
 -- entries of level 1, none of which is done
 pub record AtStart (keys spans slots links notes done codes valid lists : List ℕ) (n : ℕ) : Type 0 where

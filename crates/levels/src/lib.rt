@@ -1,7 +1,7 @@
 // Entries give one after the other, in list order, so that levels never fall.
 ghost use Prim.Native.Nat.{_≤_};
 ghost use Rattle.levels.specs.Levels.{AtStart, FiredAll};
-use closing::Visit;
+use giving::Visit;
 
 // Has one entry after the other give, until all have.
 pub fn fire_all(
@@ -28,7 +28,7 @@ pub fn fire_all(
             e,
             last: true,
         };
-        r = closing::give(
+        r = giving::give(
             keys,
             spans,
             slots,

@@ -12,7 +12,7 @@ use Rattle.policy.specs.declared.Statement.{Statement}
 use Rattle.policy.specs.Policy.{credentialOf, statementIn, bodyOf}
 use Rattle.rules.specs.declared.Use.{Use}
 use Rattle.rules.specs.Uses.{UsedAs}
-use Rattle.loading.specs.Loading.{Masked}
+use Rattle.masks.specs.Masks.{Masked}
 use Rattle.loading.specs.Steps.{InFormat, firstUse, secondUse, Room, UsesAdded, BodyUses, UseOf}
 use Rattle.loading.proofs.Usables.{set-unused, role-once, first-used, second-used}
 use Rattle.loading.proofs.Adding.{OneUse, none-added, both-added, uses-same}

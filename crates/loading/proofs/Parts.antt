@@ -6,29 +6,15 @@ use Prim.Native.Nat.{ℕ, _+_, _≤_, _<_}
 use native.Mathlib.Nat.{not-suc-le-zero}
 use native.Mathlib.Omega.{arith}
 use Rattle.policy.specs.Policy.{credentialOf}
-use Rattle.store.proofs.Chains.{last-or-below, below-or-not}
+use Rattle.store.proofs.Chains.{below-or-not}
 use Rattle.rules.specs.declared.Use.{Use}
 use Rattle.rules.specs.Uses.{Uses, Fitting, sourceOf, headsIn}
 use Rattle.rules.proofs.UseLaws.{listed-none, formed-none, uses-none}
-use Rattle.loading.specs.Loading.{NoUses, Before, UsedIn, Sourced, UsesLoaded}
+use Rattle.facts.specs.Facts.{Before}
+use Rattle.facts.proofs.Sets.{before-out, before-in}
+use Rattle.loading.specs.Loading.{NoUses, UsedIn, Sourced, UsesLoaded}
 use Rattle.loading.specs.Steps.{Room, UsesAdded, UseOf, Part}
 use Rattle.loading.proofs.Adding.{head-stays}
-
--- ---- one more position
-
-module _ {P : ℕ → Type 0} (i : ℕ) where
-  pub before-out : Before (i + 1) P → Before i P ⊎ P i
-  before-out (j, l, p) = go (last-or-below {i = j} {n = i} (omega arith))
-    where
-      go : (j ≡ i) ⊎ (j < i) → Before i P ⊎ P i
-      go (inl e) = inr (subst P e p)
-      go (inr k) = inl (j, k, p)
-
-  pub before-in : Before i P ⊎ P i → Before (i + 1) P
-  before-in (inl (j, l, p)) = (j, omega arith, p)
-  before-in (inr p) = (i, omega arith, p)
-
--- ---- uses
 
 pub part-start : {p es : List ℕ} {count : ℕ} {codes valid lists : List ℕ} → NoUses codes valid lists → Part p es count 0 codes valid lists
 part-start z =

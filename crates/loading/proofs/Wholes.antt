@@ -29,9 +29,11 @@ use Rattle.rules.specs.Uses.{UsedBy, Fitting}
 use Rattle.heads.specs.Gaining.{Gains}
 use Rattle.heads.proofs.Gaining.{over-more}
 use Rattle.closure.specs.Closure.{Found, Policy, Given, Closed}
-use Rattle.loading.specs.Loading.{Spans, During, States, StatedBy, FactBy, UsesLoaded, statementsIn, bySpan, Loaded}
+use Rattle.masks.specs.Masks.{Spans, During}
+use Rattle.masks.proofs.Masks.{rising-take, first-out}
+use Rattle.facts.specs.Facts.{States, StatedBy, FactBy}
+use Rattle.loading.specs.Loading.{UsesLoaded, statementsIn, bySpan, Loaded}
 use Rattle.loading.proofs.Usables.{decoded-proper}
-use Rattle.loading.proofs.Masks.{rising-take, first-out}
 
 -- ---- sets that are stated
 

@@ -13,8 +13,9 @@ use Rattle.policy.specs.declared.Statement.{Statement}
 use Rattle.policy.specs.Policy.{credentialOf}
 use Rattle.rules.specs.declared.Use.{Use}
 use Rattle.rules.specs.Uses.{useOf, UsedAs, Uses, Listed, Fitting, Formed, HeadOf, bodiesIn, headsIn, sourceIn, sourceOf}
-use Rattle.heads.specs.Gaining.{Origin}
-use Rattle.loading.specs.Loading.{During, Before, StatedIn, UsedIn, Sourced}
+use Rattle.masks.specs.Masks.{During}
+use Rattle.facts.specs.Facts.{Before}
+use Rattle.loading.specs.Loading.{UsedIn, Sourced}
 
 -- a statement within the format's numbers
 pub record InFormat (s : Statement) : Type 0 where
@@ -59,10 +60,6 @@ BodyUses e Ar v i w s o = (bit v s ≡ 1) × ((second : Bool) × UsedAs second e
 -- the uses of a credential, at position i, in the spans that its period covers
 abbrev pub UseOf : List ℕ → ℕ → ℕ → Credential → Sources
 UseOf es count i c w s o = During es count (c .period) s × ((second : Bool) × UsedAs second (c .statement .body) (c .statement .head) w × (o ≡ sourceOf second i))
-
--- the note of an entry that the credential at position i makes
-abbrev pub FactAt : List ℕ → ℕ → Credential → ℕ → Origin
-FactAt es count c i k at first second = (first ≡ 0) × (second ≡ 0) × (at ≡ i) × ((s : ℕ) × StatedIn es count c k s)
 
 -- the uses of the first i credentials of a policy are listed
 pub record Part (p es : List ℕ) (count i : ℕ) (codes valid lists : List ℕ) : Type 0 where

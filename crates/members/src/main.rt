@@ -1,26 +1,31 @@
 // Reads a credentials file on standard input and prints how many memberships it has, then for each of their intervals a line of
-// issuer, name, set, from, to; or `refused`, number, place.
+// issuer, name, set, from, to; or `refused`, number, place, with what that means on standard error.
 use completing::Completed;
 
-fn print_interval(role: u32, set: u32, from: u32, to: u32) {
+// Each function that prints says whether it could.
+
+fn print_interval(role: u32, set: u32, from: u32, to: u32) -> bool {
     let mut line = [0u8; 128];
     let n = lines::interval_line(&mut line, role, set, from, to);
-    console::write_line(&line, n);
+    console::write_line(&line, n)
 }
 
-fn print_membership(file: &[u8], role: u32, set: u32, spans: u64) {
+fn print_membership(file: &[u8], role: u32, set: u32, spans: u64) -> bool {
     let v = ends::intervals_of(file, spans);
     let list = v.intervals;
     let count = v.count as usize;
     let mut i = 0;
     while i < 32 {
         if count <= i {
-            return;
+            return true;
         }
         let x = list[i];
-        print_interval(role, set, x.from, x.to);
+        if !print_interval(role, set, x.from, x.to) {
+            return false;
+        }
         i += 1;
     }
+    true
 }
 
 fn print_table(
@@ -35,7 +40,9 @@ fn print_table(
         if count <= i {
             return;
         }
-        print_membership(file, roles[i], sets[i], spans[i]);
+        if !print_membership(file, roles[i], sets[i], spans[i]) {
+            return;
+        }
         i += 1;
     }
 }
@@ -47,11 +54,13 @@ fn print_members(file: &[u8]) {
     let answer = completing::complete(file, &mut roles, &mut sets, &mut spans);
     match answer {
         Completed::Memberships(count) => {
-            console::print_number(count);
-            print_table(file, &roles, &sets, &spans, count as usize);
+            if console::print_number(count) {
+                print_table(file, &roles, &sets, &spans, count as usize);
+            }
         }
         Completed::Refused { number, place } => {
             console::print_refusal(number, place);
+            console::explain(file, number, place);
         }
     }
 }
@@ -59,11 +68,15 @@ fn print_members(file: &[u8]) {
 fn main() {
     if 1 < os::arg_count() {
         console::usage(
-            b"usage: members < FILE\nFILE is a credentials file. Prints how many memberships it has, then each interval: issuer, name, set, from, to.\n",
+            b"usage: rtt-members < FILE\nFILE is a credentials file. Prints how many memberships it has, then each interval: issuer, name, set, from, to.\n",
         );
         return;
     }
     let mut buffer = console::room();
-    let n = console::read(&mut buffer);
+    let input = console::read(&mut buffer);
+    if input.failed {
+        return;
+    }
+    let n = input.count;
     print_members(&buffer[..n]);
 }

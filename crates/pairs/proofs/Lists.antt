@@ -1,10 +1,9 @@
 -- The list of a role while entries are added, and the list of a body's heads.
-use mathlib.Core.Path.{_≡_, refl, ap, _∙_}
+use mathlib.Core.Path.{_≡_, ap, _∙_}
 use mathlib.Core.Logic.{_⊎_, inl, inr}
 use mathlib.Core.List.{List}
-use Prim.Native.Nat.{ℕ, zero, suc, _+_, _-_, _≤_, _<_}
+use Prim.Native.Nat.{ℕ, _+_, _-_, _≤_, _<_}
 use native.Mathlib.Omega.{arith}
-use borrow.Author.Tests.{eq-eqb}
 use lib.ListN.{getD}
 use Rattle.store.specs.Entries.{roleIn, Stored, Grown, latest}
 use Rattle.store.proofs.Chains.{latest-same, latest-none}
@@ -16,11 +15,6 @@ use Rattle.waiting.specs.Pairs.{roleOf}
 use Rattle.pairs.specs.Pairs.{OnlyHead}
 
 -- ---- entries
-
--- the list of a role may start at any entry of it
-pub roles-start : (family : ℕ → ℕ) (start : ℕ) → start ≡ latest family (family (start - 1)) start
-roles-start family zero = refl
-roles-start family (suc n) = let e : n ≡ suc n - 1 = omega arith in simp (eq-eqb (family n) (family (suc n - 1)) (ap family e))
 
 -- the lists have grown, and the entry before an old one is the same
 pub roles-next : {keys spans keys′ spans′ slots′ links′ : List ℕ} {n r : ℕ} → Stored keys′ slots′ links′ r → Grown keys spans n keys′ spans′ r → (role start c d : ℕ) → start ≤ n → (c ≡ 0 → ⊥) → On (roleOf keys) role start c → d ≡ getD links′ (c - 1) 0 → d ≡ latest (roleOf keys) role (c - 1)

@@ -1,27 +1,16 @@
--- What the heads of a body give from a set and each entry of a role.
+-- The only head of a body, and what the entries have already.
 use mathlib.Core.Path.{_≡_}
 use mathlib.Core.List.{List}
 use Prim.Native.Nat.{ℕ, _-_, _<_}
 use lib.Bits.{bitAnd}
-use lib.ListN.{getD}
 use Rattle.meaning.specs.Table.{bit}
-use Rattle.store.specs.Entries.{keyOf, setIn, Has}
+use Rattle.store.specs.Entries.{keyOf, Has, Searchable}
 use Rattle.rules.specs.Uses.{Listed, bodyOfHead, headsIn}
-use Rattle.heads.specs.Gaining.{Spanned, Gains}
-use Rattle.heads.specs.Walks.{From}
-use Rattle.heads.specs.Heads.{Headed, FromHeads}
+use Rattle.heads.specs.declared.Gift.{Gift}
 use Rattle.waiting.specs.declared.Pair.{Pair}
-use Rattle.waiting.specs.Pairs.{roleOf, WithPair, Pairing}
-use Rattle.pairs.specs.declared.Plan.{Plan}
-
--- what the heads of a body give from entry j
-abbrev pub WithEntry : List ℕ → List ℕ → List ℕ → ℕ → List ℕ → List ℕ → ℕ → ℕ → ℕ → ℕ → Spanned
-WithEntry codes valid lists body keys done kind x d j = Headed codes valid lists body (WithPair kind x (setIn (getD keys j 0)) (bitAnd d (getD done j 0)))
-
--- from entry start - 1 and each entry before it of its role; from none where start is 0
-abbrev pub WithEach : List ℕ → List ℕ → List ℕ → ℕ → List ℕ → List ℕ → ℕ → ℕ → ℕ → ℕ → Spanned
-WithEach codes valid lists body keys done start kind x d =
-    From (roleOf keys) (roleOf keys (start - 1)) start 0 (WithEntry codes valid lists body keys done kind x d)
+use Rattle.waiting.specs.Pairs.{pairAt}
+use Rattle.portions.specs.declared.Plan.{Plan}
+use Rattle.portions.specs.Plans.{giftOf}
 
 -- the body has this head and no other
 pub record OnlyHead (codes lists : List ℕ) (body head : ℕ) : Type 0 where
@@ -37,8 +26,8 @@ OnlyHeads lists body c = (codes valid : List ℕ) → Listed codes valid lists �
 abbrev pub AllThere : List ℕ → List ℕ → ℕ → ℕ → Pair → ℕ → Type 0
 AllThere keys spans n role x v = (s : ℕ) → bit (bitAnd (x .spans) v) s ≡ 1 → Has keys spans n (keyOf role (x .set)) s
 
--- what the entries of a plan give was added to the heads of its body, new entries with their notes
-abbrev pub PlanGains : Plan → List ℕ → List ℕ → List ℕ → List ℕ → List ℕ → List ℕ → List ℕ → ℕ → List ℕ → List ℕ → List ℕ → List ℕ → List ℕ → ℕ → Type 0
-PlanGains p codes valid lists done keys spans notes n keys′ spans′ slots′ links′ notes′ r =
-    Gains (p .limit) keys spans notes n (WithEach codes valid lists (p .body) keys done (p .start) (p .offer .kind) (p .offer .set) (p .offer .spans))
-    (FromHeads codes lists (p .body) (p .own) (Pairing keys done (p .start) (p .offer .kind) (p .offer .set))) keys′ spans′ slots′ links′ notes′ r
+-- in spans, what entry j gives; in none, where the entries have it all
+pub record Lacking (keys spans slots done : List ℕ) (p : Plan) (role v j : ℕ) (g : Gift) : Type 0 where
+  pub low : g .set < 4294967296
+  pub some : (g .spans ≡ 0 → ⊥) → g ≡ giftOf p (pairAt keys done (p .offer) j)
+  pub none : g .spans ≡ 0 → (n : ℕ) → Searchable keys slots n → AllThere keys spans n role (pairAt keys done (p .offer) j) v

@@ -1,27 +1,16 @@
-// What an entry gives with each entry of a role, for the heads of a body. For several heads, sets wait before the heads get them, so that each gets an equal set once.
+// What an entry gives with each entry of a role, for the heads of a body: one head gets what it lacks, pair by pair; several get it in portions.
 ghost use mathlib.Core.Path.{_≡_};
 ghost use mathlib.Core.Bool.{true};
 ghost use mathlib.Core.List.{List};
 ghost use Prim.Native.Nat.{ℕ, _<_, _≤_};
-ghost use lib.ListN.{length, getD};
-ghost use Rattle.store.specs.Entries.{roleIn, Searchable};
+ghost use Rattle.store.specs.Entries.{Searchable, Leading};
 ghost use Rattle.rules.specs.Uses.{Listed, bodiesIn};
-ghost use Rattle.heads.specs.Gaining.{Gains};
-ghost use Rattle.heads.specs.Heads.{Ready, Headed, FromHeads};
-ghost use Rattle.waiting.specs.Waiting.{Waits, Partnered};
-ghost use Rattle.pairs.specs.Pairs.{OnlyHead, OnlyHeads, AllThere, PlanGains};
+ghost use Rattle.heads.specs.Heads.{Ready};
+ghost use Rattle.portions.specs.Plans.{PlanGains};
+ghost use Rattle.pairs.specs.Pairs.{OnlyHead, OnlyHeads, AllThere, Lacking};
 use heads::Gift;
-use waiting::Offer;
+use portions::Plan;
 use waiting::Pair;
-
-// A body, an offer of the entry with the word `own`, and entry start - 1 with those before it in its role's list, which are paired with it.
-pub struct Plan {
-    pub limit: usize,
-    pub body: usize,
-    pub start: usize,
-    pub own: u16,
-    pub offer: Offer,
-}
 
 // Adds what the entries give to the heads of the body.
 pub fn with_each(
@@ -57,14 +46,12 @@ pub fn with_each(
             c - 1,
         );
     }
-    let mut places = waiting::room();
-    with_room(
+    portions::with_heads(
         keys,
         spans,
         slots,
         links,
         notes,
-        &mut places,
         done,
         codes,
         valid,
@@ -95,13 +82,11 @@ fn with_head(
     let limit = p.limit;
     let role = rules::head_role(codes, head);
     let v = valid[head];
-    let o = p.offer;
     let mut r = n;
     let mut at = p.start;
     while at != 0 {
-        let x = waiting::pair_at(keys, done, o, at - 1);
-        if !has(keys, spans, slots, r, role, x, v) {
-            let g = gift_of(p, x);
+        let g = lacking(keys, spans, slots, done, p, role, v, at - 1);
+        if g.spans != 0 {
             r = heads::add_head(
                 keys,
                 spans,
@@ -124,88 +109,30 @@ fn with_head(
     r
 }
 
-// Adds what the entries give to the heads of the body, with room for sets that wait.
-fn with_room(
-    keys: &mut [u64; 1024],
-    spans: &mut [u64; 1024],
-    slots: &mut [u16; 3072],
-    links: &mut [u16; 2048],
-    notes: &mut [u16; 4096],
-    places: &mut [u64; 257],
+// What entry j gives a head with the role and the spans v; in no spans where the head is known to have it all.
+fn lacking(
+    keys: &[u64; 1024],
+    spans: &[u64; 1024],
+    slots: &[u16; 3072],
     done: &[u64; 1024],
-    codes: &[u32; 1024],
-    valid: &[u64; 512],
-    lists: &[u16; 3106],
-    n: usize,
     p: Plan,
-) -> usize
-    requires { ⌜ Ready (now keys) (now spans) (now slots) (now links) (now notes) n (p .limit) (now codes) (now valid) (now lists) (p .body) ⌝ ∗ ⌜ (p .start ≤ n) × (p .offer .set < 4294967296) × (p .own ≤ n) ⌝ ∗ ⌜ length (now places) ≡ 257 ⌝ }
-    ensures { λ r. ⌜ PlanGains p (now (codes .entry)) (now (valid .entry)) (now (lists .entry)) (now (done .entry)) (now (keys .entry)) (now (spans .entry)) (now (notes .entry)) n (now (keys .exit)) (now (spans .exit)) (now (slots .exit)) (now (links .exit)) (now (notes .exit)) r ⌝ }
+    role: usize,
+    v: u64,
+    j: usize,
+) -> Gift
+    requires { ⌜ Leading (now slots) ⌝ ∗ ⌜ (role < 1024) × (p .offer .set < 4294967296) × (j < 1024) ⌝ }
+    ensures { λ r. ⌜ Lacking (now (keys .entry)) (now (spans .entry)) (now (slots .entry)) (now (done .entry)) p role v j r ⌝ }
 {
-    let limit = p.limit;
-    let o = p.offer;
-    let mut r = n;
-    let mut at = p.start;
-    while at != 0 {
-        let g = waiting::gather(places, keys, links, done, o, at);
-        r = add_waiting(
-            keys,
-            spans,
-            slots,
-            links,
-            notes,
-            codes,
-            valid,
-            lists,
-            places,
-            r,
-            p,
-            g.count,
-        );
-        if limit < r {
-            return r;
-        }
-        at = g.at;
-    }
-    r
-}
-
-// Adds the sets that wait to the heads of the body.
-fn add_waiting(
-    keys: &mut [u64; 1024],
-    spans: &mut [u64; 1024],
-    slots: &mut [u16; 3072],
-    links: &mut [u16; 2048],
-    notes: &mut [u16; 4096],
-    codes: &[u32; 1024],
-    valid: &[u64; 512],
-    lists: &[u16; 3106],
-    places: &[u64; 257],
-    n: usize,
-    p: Plan,
-    count: usize,
-) -> usize
-    requires { ⌜ Ready (now keys) (now spans) (now slots) (now links) (now notes) n (p .limit) (now codes) (now valid) (now lists) (p .body) ⌝ ∗ ⌜ (count ≤ 64) × (p .own ≤ n) ⌝ ∗ ⌜ ((i : ℕ) → i < count → roleIn (getD (now places) i 0) ≤ n) ⌝ }
-    ensures { λ r. ⌜ Gains (p .limit) (now (keys .entry)) (now (spans .entry)) (now (notes .entry)) n (Headed (now (codes .entry)) (now (valid .entry)) (now (lists .entry)) (p .body) (Waits (now (places .entry)) count)) (FromHeads (now (codes .entry)) (now (lists .entry)) (p .body) (p .own) (Partnered (now (places .entry)) count)) (now (keys .exit)) (now (spans .exit)) (now (slots .exit)) (now (links .exit)) (now (notes .exit)) r ⌝ }
-{
-    let limit = p.limit;
-    let mut r = n;
-    let mut i = 0;
-    while i < count {
-        let y = places[i];
-        let x = Pair {
-            set: store::set_of(y),
-            spans: places[64 + i],
-            other: store::role_of(y) as u64,
+    let x = waiting::pair_at(keys, done, p.offer, j);
+    if has(keys, spans, slots, role, x, v) {
+        let none = Pair {
+            set: x.set,
+            spans: 0,
+            other: x.other,
         };
-        let g = gift_of(p, x);
-        r = heads::add_heads(keys, spans, slots, links, notes, codes, valid, lists, r, g);
-        if limit < r {
-            return r;
-        }
-        i += 1;
+        return portions::gift_of(p, none);
     }
-    r
+    portions::gift_of(p, x)
 }
 
 // Whether an entry is known to have all that a pair gives a head with the role and the spans v.
@@ -213,34 +140,18 @@ fn has(
     keys: &[u64; 1024],
     spans: &[u64; 1024],
     slots: &[u16; 3072],
-    n: usize,
     role: usize,
     x: Pair,
     v: u64,
 ) -> bool
-    requires { ⌜ Searchable (now keys) (now slots) n ⌝ ∗ ⌜ (length (now keys) ≡ 1024) × (length (now slots) ≡ 3072) × (n ≤ 1024) ⌝ ∗ ⌜ (role < 1024) × (x .set < 4294967296) ⌝ }
-    ensures { λ r. ⌜ (r ≡ true → AllThere (now (keys .entry)) (now (spans .entry)) n role x v) ⌝ }
+    requires { ⌜ Leading (now slots) ⌝ ∗ ⌜ (role < 1024) × (x .set < 4294967296) ⌝ }
+    ensures { λ r. ⌜ (r ≡ true → (n : ℕ) → Searchable (now (keys .entry)) (now (slots .entry)) n → AllThere (now (keys .entry)) (now (spans .entry)) n role x v) ⌝ }
 {
     let m = x.spans & v;
     if m == 0 {
         return true;
     }
     store::known(keys, spans, slots, store::key_of(role, x.set), m)
-}
-
-// What a pair gives the heads of a plan's body.
-fn gift_of(p: Plan, x: Pair) -> Gift
-    requires { ⌜ x .other ≤ 1024 ⌝ }
-    ensures { λ r. ⌜ r ≡ record { limit = p .limit; body = p .body; set = x .set; spans = x .spans; own = p .own; other = x .other } ⌝ }
-{
-    Gift {
-        limit: p.limit,
-        body: p.body,
-        set: x.set,
-        spans: x.spans,
-        own: p.own,
-        other: x.other as u16,
-    }
 }
 
 // One more than the only head of a body, or 0 where it has none or several; 0 is always right.

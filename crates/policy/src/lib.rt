@@ -162,7 +162,7 @@ fn decode_one(policy: &mut [u64; 512], file: &[u8], h: Head, i: usize) -> u32
     requires { ⌜ (Headed (now file) h) × (i < N (now file)) ⌝ }
     ensures { λ r. ⌜ OneDecoded (now (file .entry)) i (now (policy .entry)) (now (policy .exit)) r ⌝ }
 {
-    let number = file::fault(file, h, i);
+    let number = faults::fault(file, h, i);
     if number != 0 {
         return number;
     }

@@ -3,14 +3,14 @@ use mathlib.Core.Path.{_≡_, refl, sym, ap, _∙_, subst, subst⁻¹}
 use mathlib.Core.Logic.{_⊎_, inl, inr, _↔_}
 use mathlib.Core.Bool.{Bool, true, false}
 use mathlib.Core.List.{List}
-use Prim.Native.Nat.{ℕ, suc, _+_, _-_, _^_, _≤_, _<_, zero-le}
+use Prim.Native.Nat.{ℕ, suc, _-_, _^_, _≤_, _<_, zero-le}
 use native.Mathlib.Omega.{arith}
 use lib.Bits.{bitAnd}
 use lib.ListN.{getD}
 use Rattle.meaning.specs.Sequence.{Relation}
 use Rattle.meaning.specs.Table.{bit}
 use Rattle.meaning.proofs.Bits.{bit-of-zero, bit-and, bit-ext}
-use Rattle.store.specs.Entries.{keyOf, roleIn, setIn, Has, Stored, EntryOf}
+use Rattle.store.specs.Entries.{keyOf, roleIn, setIn, latestIn, Has, Stored, EntryOf}
 use Rattle.store.proofs.Chains.{latest-below, latest-some, latest-none}
 use Rattle.store.proofs.Keys.{role-of-key, set-of-key, set-below, key-of-parts}
 use Rattle.store.proofs.Stores.{has-entry}
@@ -60,7 +60,7 @@ single-none {keys} done {n} {key} x d none =
 
 module _ {keys slots links : List ℕ} {n : ℕ} (st : Stored keys slots links n) where
   -- a role without a last entry has none
-  pub role-none : (key : ℕ) → roleIn key < 1024 → getD links (1024 + roleIn key) 0 ≡ 0 → (i : ℕ) → i < n → getD keys i 0 ≡ key → ⊥
+  pub role-none : (key : ℕ) → roleIn key < 1024 → latestIn links (roleIn key) ≡ 0 → (i : ℕ) → i < n → getD keys i 0 ≡ key → ⊥
   role-none key r z i l e = latest-none (roleOf keys) (roleIn key) n i (omega (arith, st .chained .lasts (roleIn key) r)) l (ap roleIn e)
 
   pub single-some : (done : List ℕ) {key c : ℕ} (x d : ℕ) → EntryOf keys n key c → (c ≡ 0 → ⊥) → Single keys done n key x d (singleOf x (bitAnd d (getD done (c - 1) 0)) c)

@@ -3,11 +3,11 @@ use mathlib.Core.Path.{_≡_}
 use mathlib.Core.Logic.{_⊎_, _↔_}
 use mathlib.Core.Bool.{Bool, true, false}
 use mathlib.Core.List.{List}
-use Prim.Native.Nat.{ℕ, suc, _+_, _-_, _≤_, _<_}
+use Prim.Native.Nat.{ℕ, suc, _-_, _≤_, _<_}
 use lib.Bits.{bitAnd}
 use lib.ListN.{getD}
 use Rattle.meaning.specs.Table.{bit}
-use Rattle.store.specs.Entries.{setIn, Has}
+use Rattle.store.specs.Entries.{setIn, latestIn, Has, Stored}
 use Rattle.rules.specs.Uses.{familyIn, kindIn, otherIn}
 use Rattle.heads.specs.Gaining.{Spanned}
 use Rattle.heads.specs.Walks.{From}
@@ -38,9 +38,13 @@ pub record Single (keys done : List ℕ) (n key x d : ℕ) (m : Move) : Type 0 w
   pub low : m .other ≤ n
   pub start : m .start ≡ 0
 
+-- the same, for every n of which the store has n entries
+abbrev pub WithOne : List ℕ → List ℕ → List ℕ → List ℕ → ℕ → ℕ → ℕ → Move → Type 0
+WithOne keys slots links done key x d m = (n : ℕ) → Stored keys slots links n → Single keys done n key x d m
+
 -- a walk starts at entry e, whose role is the partner's, where nothing after it is done; else at the latest entry of the partner's role
 abbrev pub Walking : List ℕ → Turn → ℕ → ℕ → ℕ → Type 0
-Walking links t role partner r = ((t .last ≡ true) × (role ≡ partner) × (r ≡ suc (t .e))) ⊎ (r ≡ getD links (1024 + partner) 0)
+Walking links t role partner r = ((t .last ≡ true) × (role ≡ partner) × (r ≡ suc (t .e))) ⊎ (r ≡ latestIn links partner)
 
 -- the sets that a move gives, and a set with the word of its partner
 abbrev pub MoveSets : Bool → List ℕ → List ℕ → Move → Spanned
@@ -57,3 +61,7 @@ pub record Planned (keys done : List ℕ) (n e code d : ℕ) (m : Move) : Type 0
   pub exact : (X s : ℕ) → MoveSets (m .each) keys done m X s ↔ ByCode keys done n e d code X s
   pub words : (m .offer .spans ≡ 0 → ⊥) → (X w : ℕ) → MoveWords (m .each) keys done m X w → Offers keys done n e code X w
   pub low : (m .offer .set < 4294967296) × (m .other ≤ n) × (m .start ≤ n)
+
+-- the same, for every n of which the store has n entries
+abbrev pub Plans : List ℕ → List ℕ → List ℕ → List ℕ → Turn → ℕ → ℕ → Move → Type 0
+Plans keys slots links done t code d m = (n : ℕ) → Stored keys slots links n → Firing done n t → Planned keys done n (t .e) code d m

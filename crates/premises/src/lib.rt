@@ -2,8 +2,9 @@
 ghost use mathlib.Core.Path.{_≡_};
 ghost use mathlib.Core.Bool.{true, false};
 ghost use Prim.Native.Nat.{_<_};
-ghost use Rattle.store.specs.Entries.{roleIn, Stored};
-ghost use Rattle.premises.specs.Moves.{Firing, Codable, Single, Walking, Planned};
+ghost use lib.ListN.{getD};
+ghost use Rattle.store.specs.Entries.{roleIn, Leading};
+ghost use Rattle.premises.specs.Moves.{Codable, WithOne, Walking, Plans};
 use waiting::Offer;
 
 // Entry e gives what it can in some spans. `last` says that no entry after it is done yet; false is always right. A new entry past the limit is not added.
@@ -29,12 +30,11 @@ pub fn plan(
     links: &[u16; 2048],
     done: &[u64; 1024],
     code: u32,
-    n: usize,
     t: Turn,
     d: u64,
 ) -> Move
-    requires { ⌜ Stored (now keys) (now slots) (now links) n ⌝ ∗ ⌜ Firing (now done) n t ⌝ ∗ ⌜ Codable (now keys) (t .e) code ⌝ }
-    ensures { λ r. ⌜ Planned (now (keys .entry)) (now (done .entry)) n (t .e) code d r ⌝ }
+    requires { ⌜ Leading (now slots) ⌝ ∗ ⌜ (t .e < 1024) × (roleIn (getD (now keys) (t .e) 0) < 1024) ⌝ ∗ ⌜ Codable (now keys) (t .e) code ⌝ }
+    ensures { λ r. ⌜ Plans (now (keys .entry)) (now (slots .entry)) (now (links .entry)) (now (done .entry)) t code d r ⌝ }
 {
     let e = t.e;
     let x = store::set_of(keys[e]);
@@ -45,7 +45,7 @@ pub fn plan(
         return single(x, d, 0);
     }
     if kind == 3 {
-        return with_one(keys, slots, links, done, n, store::key_of(partner, x), x, d);
+        return with_one(keys, slots, links, done, store::key_of(partner, x), x, d);
     }
     if kind != 2 {
         let start = start_at(links, t, role, partner);
@@ -53,7 +53,7 @@ pub fn plan(
     }
     if 1024 <= rules::family_of(code) {
         let key = store::key_of(partner, 1u64 << (role / 32));
-        return with_one(keys, slots, links, done, n, key, x, d);
+        return with_one(keys, slots, links, done, key, x, d);
     }
     let set = x as u32;
     if u32::count_ones(set) != 1 {
@@ -70,16 +70,15 @@ fn with_one(
     slots: &[u16; 3072],
     links: &[u16; 2048],
     done: &[u64; 1024],
-    n: usize,
     key: u64,
     x: u64,
     d: u64,
 ) -> Move
-    requires { ⌜ Stored (now keys) (now slots) (now links) n ⌝ ∗ ⌜ roleIn key < 1024 ⌝ }
-    ensures { λ r. ⌜ Single (now (keys .entry)) (now (done .entry)) n key x d r ⌝ }
+    requires { ⌜ Leading (now slots) ⌝ ∗ ⌜ roleIn key < 1024 ⌝ }
+    ensures { λ r. ⌜ WithOne (now (keys .entry)) (now (slots .entry)) (now (links .entry)) (now (done .entry)) key x d r ⌝ }
 {
     let role = store::role_of(key);
-    if links[1024 + role] == 0 {
+    if store::latest(links, role) == 0 {
         return single(x, 0, 0);
     }
     let c = store::entry_of(keys, slots, key);
@@ -97,7 +96,7 @@ fn start_at(links: &[u16; 2048], t: Turn, role: usize, partner: usize) -> usize
     if t.last & (role == partner) {
         return t.e + 1;
     }
-    store::wide(links[1024 + partner])
+    store::latest(links, partner)
 }
 
 fn single(set: u64, spans: u64, other: u16) -> Move

@@ -1,5 +1,6 @@
-// Takes ISSUER NAME SET MINUTE in decimal and a credentials file on standard input, and prints a proof that the role has the set as a member
-// at the minute: step count and level, then each step on a line; or `refused`, number, place.
+// Takes ISSUER NAME SET MINUTE and a credentials file on standard input, and prints a proof that the role has the set as a member at the
+// minute: step count and level, then each step on a line; or `refused`, number, place, with what that means on standard error. The set is
+// written as {1,3} or as its number.
 ghost use mathlib.Core.Path.{_≡_};
 ghost use mathlib.Core.Bool.{cond, _&&_};
 ghost use Prim.Native.Nat.{_+_, _*_};
@@ -11,20 +12,27 @@ use proof_lines::Step;
 use querying::Answer;
 use text::Parsed;
 
+struct Query {
+    issuer: u32,
+    name: u32,
+    set: u32,
+    minute: u32,
+}
+
 enum Request {
-    Query { role: u32, set: u32, minute: u32 },
+    Query(Query),
     Unclear,
 }
 
-// Every step of a proof names a credential of the file.
-fn print_step(file: &[u8], number: u32, s: Step) {
+// Prints a step, and says whether it could. Every step of a proof names a credential of the file.
+fn print_step(file: &[u8], number: u32, s: Step) -> bool {
     match reader::read_credential(file, s.credential as usize) {
         Found::Credential(c) => {
             let mut line = [0u8; 128];
             let n = proof_lines::step_line(&mut line, number, s, c);
-            console::write_line(&line, n);
+            console::write_line(&line, n)
         }
-        Found::End => {}
+        Found::End => true,
     }
 }
 
@@ -48,21 +56,42 @@ fn print_steps(
             second: second[i],
             set: sets[i],
         };
-        print_step(file, i as u32, s);
+        if !print_step(file, i as u32, s) {
+            return;
+        }
         i += 1;
     }
 }
 
-fn print_proof(file: &[u8], role: u32, set: u32, minute: u32) {
+// Says to standard error what a refusal of a query means: up to 8 it is the file's, from 10 on the request's; 9 is not given here.
+fn explain(file: &[u8], q: Query, number: u32, place: u32) {
+    if number < 10 {
+        console::explain(file, number, place);
+        return;
+    }
+    let mut line = [0u8; 256];
+    let n = request_sentences::request_line(
+        &mut line,
+        file,
+        q.issuer,
+        q.name,
+        q.set,
+        q.minute,
+        number,
+    );
+    console::write_sentence(&line, n);
+}
+
+fn print_proof(file: &[u8], q: Query) {
     let mut credential = console::numbers32();
     let mut first = console::numbers32();
     let mut second = console::numbers32();
     let mut sets = console::numbers32();
     let answer = querying::query(
         file,
-        role,
-        set,
-        minute,
+        role_asked(q.issuer, q.name),
+        q.set,
+        q.minute,
         &mut credential,
         &mut first,
         &mut second,
@@ -70,11 +99,13 @@ fn print_proof(file: &[u8], role: u32, set: u32, minute: u32) {
     );
     match answer {
         Answer::Proof { steps, level } => {
-            console::print_pair(steps, level);
-            print_steps(file, &credential, &first, &second, &sets, steps);
+            if console::print_pair(steps, level) {
+                print_steps(file, &credential, &first, &second, &sets, steps);
+            }
         }
         Answer::Refused { number, place } => {
             console::print_refusal(number, place);
+            explain(file, q, number, place);
         }
     }
 }
@@ -92,11 +123,20 @@ fn role_asked(issuer: u32, name: u32) -> u32
     file::role_number(Entity(issuer as u8), RoleName(name as u8))
 }
 
-// An argument that is missing or longer than the buffer is empty here, and so no number.
+// An argument that is missing or longer than the buffer is empty here, and so no number and no set.
 fn argument(i: usize) -> Parsed {
     let mut word = [0u8; 128];
     let n = os::arg(i, &mut word);
     text::parse(&word[..n])
+}
+
+fn set_argument(i: usize) -> Parsed {
+    let mut word = [0u8; 128];
+    let n = os::arg(i, &mut word);
+    match sets::parse_set(&word[..n]) {
+        Parsed::Number(set) => Parsed::Number(set),
+        Parsed::Nothing => text::parse(&word[..n]),
+    }
 }
 
 fn asked() -> Request {
@@ -109,28 +149,35 @@ fn asked() -> Request {
     let Parsed::Number(name) = argument(2) else {
         return Request::Unclear;
     };
-    let Parsed::Number(set) = argument(3) else {
+    let Parsed::Number(set) = set_argument(3) else {
         return Request::Unclear;
     };
     let Parsed::Number(minute) = argument(4) else {
         return Request::Unclear;
     };
-    Request::Query {
-        role: role_asked(issuer, name),
+    Request::Query(Query {
+        issuer,
+        name,
         set,
         minute,
+    })
+}
+
+fn answer(q: Query) {
+    let mut buffer = console::room();
+    let input = console::read(&mut buffer);
+    if input.failed {
+        return;
     }
+    let n = input.count;
+    print_proof(&buffer[..n], q);
 }
 
 fn main() {
     match asked() {
-        Request::Query { role, set, minute } => {
-            let mut buffer = console::room();
-            let n = console::read(&mut buffer);
-            print_proof(&buffer[..n], role, set, minute);
-        }
+        Request::Query(q) => answer(q),
         Request::Unclear => console::usage(
-            b"usage: proof ISSUER NAME SET MINUTE < FILE\nFour numbers in decimal, up to 4294967295. SET has bit e for entity e. FILE is a credentials file.\n",
+            b"usage: rtt-proof ISSUER NAME SET MINUTE < FILE\nNumbers are decimal, up to 4294967295. SET is a set of entities, as '{1,3}', or its number, which has bit e for entity e.\nFILE is a credentials file. Prints a proof that the set holds the role at the minute.\n",
         ),
     }
 }

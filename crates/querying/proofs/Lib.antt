@@ -1,4 +1,3 @@
-pub mod Entries
 pub mod Working
 pub mod Replies
 pub mod Refusals

@@ -1,28 +1,32 @@
 -- The reply and the lists of each way in which querying ends.
-use mathlib.Core.Path.{_≡_, refl, sym, ap, _∙_, subst}
+use mathlib.Core.Path.{_≡_, refl, sym, ap, _∙_, subst, subst⁻¹}
 use mathlib.Core.Logic.{_⊎_, inl, inr}
 use mathlib.Core.Bool.{Bool, true, false, not}
 use mathlib.Core.List.{List, [], _∷_}
-use Prim.Native.Nat.{ℕ, _-_, _≤_}
+use Prim.Native.Nat.{ℕ, _-_, _^_, _<_}
 use native.Mathlib.Omega.{arith}
 use borrow.Author.Tests.{eq-eqb, ne-eqb}
 use lib.Dec.{ltb}
-use lib.ListN.{length, replicate}
+use lib.ListN.{length, getD, replicate}
 use Rattle.meaning.specs.Lists.{if}
 use Rattle.meaning.specs.Credentials.{Credential}
 use Rattle.meaning.specs.Members.{member, has, members}
 use Rattle.meaning.specs.Proofs.{Step}
 use Rattle.file.specs.declared.Refusal.{Refusal}
 use Rattle.file.specs.Values.{firstRefusal}
-use Rattle.file.specs.Refusals.{Outcome, done, refused, first, left}
+use Rattle.file.specs.Refusals.{Outcome, done, refused, left}
 use Rattle.file.specs.Format.{credentials}
+use Rattle.store.specs.Entries.{roleIn, setIn}
+use Rattle.store.specs.Notes.{levelOf}
+use Rattle.store.proofs.Keys.{role-of-key, set-of-key}
 use Rattle.asking.specs.Asking.{Request, StepLists, stepLists, size, asking}
 use Rattle.asking.proofs.Asked.{asked-refused, asked-passed, asked-low}
 use Rattle.derivation.specs.HandedOut.{HandedOut, words}
 use Rattle.answering.specs.Steps.{upTo}
-use Rattle.querying.specs.declared.Search.{Search}
+use Rattle.finding.specs.declared.Found.{Found}
+use Rattle.finding.specs.Finding.{saysFound, Shows, Finds}
 use Rattle.querying.specs.Querying.{Counts, counts, minuteFullRow, noneRow, levelFor, replyWith, queryEnding, querying, Queried}
-use Rattle.querying.specs.Working.{replyOf, Worked}
+use Rattle.querying.specs.Working.{zeros, HandsOut, none, proof}
 
 -- a refusal other than 10 and 13 leaves a list as it was, and these leave zeros
 left-same : (n p : ℕ) (before written : List ℕ) → (n ≡ 10 → ⊥) → (n ≡ 13 → ⊥) → left {A = Counts} (refused n p) before written ≡ before
@@ -32,16 +36,47 @@ left-zeros : (n p : ℕ) (before written : List ℕ) → (n ≡ 10) ⊎ (n ≡ 1
 left-zeros n p before written (inl e) = rw e refl
 left-zeros n p before written (inr e) = rw e refl
 
--- a list that is cleared from place 0 on
-pub cleared : (l : List ℕ) {l′ : List ℕ} {n : ℕ} → l′ ≡ upTo 0 l → length l ≡ n → l′ ≡ replicate n 0
-cleared l e h = let z : length l - 0 ≡ length l = omega arith in e ∙ ap (λ (k : ℕ). replicate k 0) (z ∙ h)
+-- lists that are cleared from place 0 on
+clear : (l : List ℕ) {l′ : List ℕ} → l′ ≡ upTo 0 l → l′ ≡ replicate (length l) 0
+clear l e = let z : length l - 0 ≡ length l = omega arith in e ∙ ap (λ (k : ℕ). replicate k 0) z
+
+pub cleared : (t : StepLists) {xs ys zs us : List ℕ} → xs ≡ upTo 0 (t .credential) → ys ≡ upTo 0 (t .first) → zs ≡ upTo 0 (t .second) → us ≡ upTo 0 (t .sets) → stepLists xs ys zs us ≡ zeros t
+cleared t a b c d i = stepLists (clear (t .credential) a i) (clear (t .first) b i) (clear (t .second) c i) (clear (t .sets) d i)
 
 abbrev levelIn : Outcome Counts → ℕ
 levelIn (done c) = c .level
 levelIn (refused n p) = 0
 
-no-refusal : {n p : ℕ} {c : Counts} → refused n p ≡ done c → ⊥
+no-refusal : {A : Type 0} {n p : ℕ} {c : A} → refused n p ≡ done c → ⊥
 no-refusal e = let z : _≡_ {A = ℕ} 0 1 = cc in absurd (omega arith)
+
+-- ---- 10, 13 or a level, and with it a step count
+
+says-found : (g : Found) → g .number ≡ 0 → saysFound g ≡ done (g .level)
+says-found g z = ap (λ (b : Bool). if b (done (g .level)) (refused (g .number) 0)) (eq-eqb (g .number) 0 z)
+
+says-refused : (g : Found) → (g .number ≡ 0 → ⊥) → saysFound g ≡ refused (g .number) 0
+says-refused g h = ap (λ (b : Bool). if b (done (g .level)) (refused (g .number) 0)) (ne-eqb (g .number) 0 h)
+
+-- 10 where `full`, 13 where not `known`, as the rows give them
+abbrev byRows : {A : Type 0} → Bool → Bool → A → Outcome A
+byRows full known a = elim full [ true ↦ refused 10 0 | false ↦ elim (not known) [ true ↦ refused 13 0 | false ↦ done a ] ]
+
+abbrev withSteps : Outcome ℕ → ℕ → Outcome Counts
+withSteps (done level) n = done (counts n level)
+withSteps (refused number place) n = refused number place
+
+rows-same : (full known : Bool) (n level : ℕ) → byRows full known (counts n level) ≡ withSteps (byRows full known level) n
+rows-same true known n level = refl
+rows-same false true n level = refl
+rows-same false false n level = refl
+
+rows-refuse : (full known : Bool) (level number : ℕ) → refused number 0 ≡ byRows full known level → (number ≡ 10) ⊎ (number ≡ 13)
+rows-refuse true known level number e = inl cc
+rows-refuse false true level number e = absurd (no-refusal e)
+rows-refuse false false level number e = inr cc
+
+-- ---- the whole call
 
 module _ (f : List ℕ) (q : Request) (t : StepLists) where
   abbrev leftBy : Outcome Counts → List Step → StepLists
@@ -76,75 +111,57 @@ module _ (f : List ℕ) (q : Request) (t : StepLists) where
         no-13 z = omega (arith, asked-low f q t r e h .1)
 
     -- the search was by the credentials of the file
-    module _ (none : r .number ≡ 0) {cs : List Credential} (means : cs ≡ credentials f) {L : ℕ} (same : L ≡ size t) {credential first′ second sets : List ℕ} {s : Search} (worked : Worked cs q L credential first′ second sets s) where
-      w : Worked (credentials f) q L credential first′ second sets s
-      w = subst (λ (cs : List Credential). Worked cs q L credential first′ second sets s) means worked
+    module _ (judged : r .number ≡ 0) {cs : List Credential} (means : cs ≡ credentials f) {keys notes : List ℕ} {g : Found} (finds : Finds cs (q .minute) (q .role) (q .set) (size t) keys notes g) (small : q .set < 2 ^ 32) where
+      w : Finds (credentials f) (q .minute) (q .role) (q .set) (size t) keys notes g
+      w = subst (λ (cs : List Credential). Finds cs (q .minute) (q .role) (q .set) (size t) keys notes g) means finds
 
-      passed : replyWith f q t (w .steps) ≡ replyOf s
+      abbrev full : Bool
+      full = ltb (size t) (length (members (credentials f) (q .minute)))
+
+      abbrev known : Bool
+      known = has (member (q .role) (q .set)) (members (credentials f) (q .minute))
+
+      passed : (ss : List Step) → replyWith f q t ss ≡ withSteps (saysFound g) (length ss)
       unfolding replyWith
-      passed =
-          asked-passed f q t r e none (minuteFullRow f q (size t) ∷ noneRow f q ∷ []) (counts (length (w .steps)) (levelFor f q))
-          ∙ sym (w .reply ∙ ap (λ (n : ℕ). first (minuteFullRow f q n ∷ noneRow f q ∷ []) (counts (length (w .steps)) (levelFor f q))) same)
+      passed ss =
+          asked-passed f q t r e judged (minuteFullRow f q (size t) ∷ noneRow f q ∷ []) (counts (length ss) (levelFor f q))
+          ∙ rows-same full known (length ss) (levelFor f q) ∙ sym (ap (λ (o : Outcome ℕ). withSteps o (length ss)) (w .reply))
 
       -- 10 or 13
-      which : (s .number ≡ 0 → ⊥) → (s .number ≡ 10) ⊎ (s .number ≡ 13)
-      which h =
-          go (ltb L (length (members (credentials f) (q .minute)))) (has (member (q .role) (q .set)) (members (credentials f) (q .minute)))
-          (ap (λ (b : Bool). if b (done (counts (s .steps) (s .level))) (refused (s .number) 0)) (sym (ne-eqb (s .number) 0 h)) ∙ w .reply)
+      which : (g .number ≡ 0 → ⊥) → (g .number ≡ 10) ⊎ (g .number ≡ 13)
+      which h = rows-refuse full known (levelFor f q) (g .number) (sym (says-refused g h) ∙ w .reply)
+
+      pub queried : {reply : Outcome Counts} {t′ : StepLists} → HandsOut keys notes g t reply t′ → Queried f q t reply t′
+      queried {reply} {t′} (none h o z) =
+          subst⁻¹ (λ (x : Outcome Counts). Queried f q t x t′) o
+          (subst⁻¹ (Queried f q t (refused (g .number) 0)) z
+          record {
+            steps = [];
+            ends =
+                (λ i. queryEnding (refused (g .number) 0) (stepLists
+                (sym (left-zeros (g .number) 0 (t .credential) (words (λ s. s .credential) (size t) []) (which h)) i)
+                (sym (left-zeros (g .number) 0 (t .first) (words (λ s. s .first) (size t) []) (which h)) i)
+                (sym (left-zeros (g .number) 0 (t .second) (words (λ s. s .second) (size t) []) (which h)) i)
+                (sym (left-zeros (g .number) 0 (t .sets) (words (λ s. s .set) (size t) []) (which h)) i)))
+                ∙ by-reply (refused (g .number) 0) [] (passed [] ∙ ap (λ (o : Outcome ℕ). withSteps o 0) (says-refused g h));
+            handed = λ c d. absurd (no-refusal d);
+          })
+      queried {reply} {t′} (proof z k o a) =
+          subst⁻¹ (λ (x : Outcome Counts). Queried f q t x t′) o
+          record {
+            steps = a .steps;
+            ends =
+                (λ i. queryEnding (done (counts k (g .level))) (stepLists (a .byCredential i) (a .byFirst i) (a .bySecond i) (a .bySet i)))
+                ∙ by-reply (done (counts k (g .level))) (a .steps)
+                (passed (a .steps) ∙ ap (λ (o : Outcome ℕ). withSteps o (length (a .steps))) (says-found g z) ∙ ap (λ (n : ℕ). done (counts n (g .level))) (sym (a .count)));
+            handed = λ c d. (
+              subst (λ (j : ℕ). HandedOut (credentials f) (q .minute) (q .role) (q .set) j (a .steps)) (sym (s .level) ∙ ap levelIn d)
+                  (subst (λ (X : ℕ). HandedOut (credentials f) (q .minute) (q .role) X (levelOf notes (g .entry)) (a .steps)) (ap setIn (s .key) ∙ set-of-key (q .role) (q .set) small)
+                  (subst (λ (R : ℕ). HandedOut (credentials f) (q .minute) R (setIn (getD keys (g .entry) 0)) (levelOf notes (g .entry)) (a .steps)) (ap roleIn (s .key) ∙ role-of-key (q .role) (q .set) small)
+                  (a .handed (credentials f) (q .minute) (s .derivation)))),
+              omega (arith, a .count, a .few, s .low),
+            );
+          }
         where
-          go : (a b : Bool) → _≡_ {A = Outcome Counts} (refused (s .number) 0)
-              (elim a [ true ↦ refused 10 0 | false ↦ elim (not b) [ true ↦ refused 13 0 | false ↦ done (counts (length (w .steps)) (levelFor f q)) ] ])
-              → (s .number ≡ 10) ⊎ (s .number ≡ 13)
-          go true b e = inl cc
-          go false true e = absurd (no-refusal e)
-          go false false e = inr cc
-
-      -- the lists were cleared after 10 or 13
-      pub search-refused : (s .number ≡ 0 → ⊥) → {xs ys zs us : List ℕ} → xs ≡ replicate (length (t .credential)) 0 → ys ≡ replicate (length (t .first)) 0
-          → zs ≡ replicate (length (t .second)) 0 → us ≡ replicate (length (t .sets)) 0 → Queried f q t (refused (s .number) 0) (stepLists xs ys zs us)
-      search-refused h a b c d = record {
-        steps = w .steps;
-        ends =
-            (λ i. queryEnding (refused (s .number) 0) (stepLists
-            ((a ∙ sym (left-zeros (s .number) 0 (t .credential) (words (λ s. s .credential) (size t) (w .steps)) (which h))) i)
-            ((b ∙ sym (left-zeros (s .number) 0 (t .first) (words (λ s. s .first) (size t) (w .steps)) (which h))) i)
-            ((c ∙ sym (left-zeros (s .number) 0 (t .second) (words (λ s. s .second) (size t) (w .steps)) (which h))) i)
-            ((d ∙ sym (left-zeros (s .number) 0 (t .sets) (words (λ s. s .set) (size t) (w .steps)) (which h))) i)))
-            ∙ by-reply (refused (s .number) 0) (w .steps) (passed ∙ ap (λ (b : Bool). if b (done (counts (s .steps) (s .level))) (refused (s .number) 0)) (ne-eqb (s .number) 0 h));
-        handed = λ c d. absurd (no-refusal d);
-      }
-
-      -- the lists hold a proof
-      pub proof-given : s .number ≡ 0 → Queried f q t (done (counts (s .steps) (s .level))) (stepLists credential first′ second sets)
-      proof-given z = record {
-        steps = w .steps;
-        ends =
-            (λ i. queryEnding (done (counts (s .steps) (s .level))) (stepLists
-            ((w .byCredential z ∙ ap (λ (n : ℕ). words (λ s. s .credential) n (w .steps)) same) i)
-            ((w .byFirst z ∙ ap (λ (n : ℕ). words (λ s. s .first) n (w .steps)) same) i)
-            ((w .bySecond z ∙ ap (λ (n : ℕ). words (λ s. s .second) n (w .steps)) same) i)
-            ((w .bySet z ∙ ap (λ (n : ℕ). words (λ s. s .set) n (w .steps)) same) i)))
-            ∙ by-reply (done (counts (s .steps) (s .level))) (w .steps) replied;
-        handed = λ c e. (
-          subst (λ (k : ℕ). HandedOut (credentials f) (q .minute) (q .role) (q .set) k (w .steps)) (sym least ∙ level-of c e) (w .handed z .0),
-          subst (λ (n : ℕ). length (w .steps) ≤ n) same (w .handed z .1),
-        );
-      }
-        where
-          replied : replyWith f q t (w .steps) ≡ done (counts (s .steps) (s .level))
-          replied = passed ∙ ap (λ (b : Bool). if b (done (counts (s .steps) (s .level))) (refused (s .number) 0)) (eq-eqb (s .number) 0 z)
-
-          level-of : (c : Counts) → done (counts (s .steps) (s .level)) ≡ done c → s .level ≡ c .level
-          level-of c e = ap levelIn e
-
-          -- the level is the least, since the rows gave a proof
-          least : s .level ≡ levelFor f q
-          least =
-              go (ltb L (length (members (credentials f) (q .minute)))) (has (member (q .role) (q .set)) (members (credentials f) (q .minute)))
-              (ap (λ (b : Bool). if b (done (counts (s .steps) (s .level))) (refused (s .number) 0)) (sym (eq-eqb (s .number) 0 z)) ∙ w .reply)
-            where
-              go : (a b : Bool) → _≡_ {A = Outcome Counts} (done (counts (s .steps) (s .level)))
-                  (elim a [ true ↦ refused 10 0 | false ↦ elim (not b) [ true ↦ refused 13 0 | false ↦ done (counts (length (w .steps)) (levelFor f q)) ] ]) → s .level ≡ levelFor f q
-              go true b e = absurd (no-refusal (sym e))
-              go false true e = ap levelIn e
-              go false false e = absurd (no-refusal (sym e))
+          s : Shows (credentials f) (q .minute) (q .role) (q .set) (size t) keys notes (g .entry) (g .level)
+          s = w .shows z

@@ -25,7 +25,7 @@ pub fn read_credential(file: &[u8], i: usize) -> Found
     if n <= i {
         return Found::End;
     }
-    if file::fault(file, h, i) != 0 {
+    if faults::fault(file, h, i) != 0 {
         return Found::End;
     }
     Found::Credential(value_at(file, h, i))

@@ -16,7 +16,7 @@ use Rattle.store.specs.Entries.{keyOf, roleIn, setIn}
 use Rattle.store.specs.Notes.{word, levelOf, Leveled}
 use Rattle.store.proofs.Keys.{role-of-key, set-of-key}
 use Rattle.premises.specs.Combining.{Keyed}
-use Rattle.loading.specs.Loading.{States}
+use Rattle.facts.specs.Facts.{States}
 use Rattle.derivation.specs.Derivation.{Citable, shownOf, Derived}
 
 -- a body gives more from more; only the premises that it cites count

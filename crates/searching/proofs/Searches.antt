@@ -21,7 +21,8 @@ use Rattle.heads.specs.Gaining.{Kept, Gains}
 use Rattle.heads.proofs.Gaining.{over-more}
 use Rattle.closure.specs.Closure.{Closed, TooMany}
 use Rattle.levels.specs.Levels.{AtStart, NotedBy, OneSpan, FiredAll}
-use Rattle.loading.specs.Loading.{States, StatedBy, FactBy, UsesLoaded, statementsIn}
+use Rattle.facts.specs.Facts.{States, StatedBy, FactBy}
+use Rattle.loading.specs.Loading.{UsesLoaded, statementsIn}
 use Rattle.loading.proofs.Usables.{decoded-proper}
 use Rattle.loading.proofs.Wholes.{stands-out, loaded, minute-out, minute-only}
 use Rattle.derivation.specs.Derivation.{Derived}

@@ -17,7 +17,7 @@ use Rattle.rules.specs.Uses.{UsedBy, UsedAs, Fitting, bodyCode, familyIn, kindI
 use Rattle.rules.proofs.CodeLaws.{headIn, family-in-code, kind-in-code, other-in-code, head-in-code}
 use Rattle.heads.specs.Heads.{FromHead}
 use Rattle.premises.specs.Combining.{Combined, Keyed, Offers}
-use Rattle.closing.proofs.Premises.{By, combined-below, use-head}
+use Rattle.giving.proofs.Premises.{By, combined-below, use-head}
 use Rattle.loading.specs.Loading.{Sourced}
 use Rattle.searching.proofs.Statements.{keyed-below, as-first, as-second, Takes, takes-first, takes-second}
 use Rattle.searching.proofs.Reasons.{Reason}

@@ -13,7 +13,7 @@ use Rattle.store.proofs.Keys.{set-below}
 use Rattle.rules.specs.declared.Use.{Use}
 use Rattle.rules.specs.Uses.{useOf, UsedBy, UsedAs, Fitting}
 use Rattle.premises.specs.Combining.{Combined, inclusion, linking, linked, intersection, union, disjoint, Keyed}
-use Rattle.closing.proofs.Premises.{By}
+use Rattle.giving.proofs.Premises.{By}
 
 -- ---- what is given
 

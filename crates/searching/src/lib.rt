@@ -56,7 +56,7 @@ fn search_by(
 {
     let mut spans = store::room_for_keys();
     let mut links = store::room_for_links();
-    let count = loading::load_sets(
+    let count = facts::load_sets(
         keys,
         &mut spans,
         slots,

@@ -54,9 +54,13 @@ pub record Searchable (keys slots : List ℕ) (n : ℕ) : Type 0 where
   pub within : (p i : ℕ) → getD slots p 0 ≡ suc i → i < n
   pub later : (p i : ℕ) → getD slots p 0 ≡ suc i → p < 1024 + 2 * i
 
+-- one more than the latest entry of the role r, or 0
+abbrev pub latestIn : List ℕ → ℕ → ℕ
+latestIn links r = getD links (1024 + r) 0
+
 -- the links after entry n of the role r
 abbrev pub pushed : List ℕ → ℕ → ℕ → List ℕ
-pushed links n r = set (set links n (getD links (1024 + r) 0)) (1024 + r) (n + 1)
+pushed links n r = set (set links n (latestIn links r)) (1024 + r) (n + 1)
 
 -- n entries with their slots, and their lists by role: places 0 to 1,023 of `links` are `prev`, the others `last`
 pub record Stored (keys slots links : List ℕ) (n : ℕ) : Type 0 where
@@ -64,7 +68,7 @@ pub record Stored (keys slots links : List ℕ) (n : ℕ) : Type 0 where
   pub few : n ≤ 1024
   pub roles : (i : ℕ) → i < n → roleIn (getD keys i 0) < 1024
   pub searchable : Searchable keys slots n
-  pub chained : Chained (λ i. roleIn (getD keys i 0)) 1024 n (λ r. getD links (1024 + r) 0) (λ i. getD links i 0)
+  pub chained : Chained (λ i. roleIn (getD keys i 0)) 1024 n (latestIn links) (λ i. getD links i 0)
 
 -- entries are below 1,024, and the slots of an entry lead to later ones: every search ends
 abbrev pub Leading : List ℕ → Type 0

@@ -3,12 +3,12 @@ ghost use mathlib.Core.Path.{_≡_};
 ghost use mathlib.Core.Bool.{true};
 ghost use Prim.Native.Nat.{ℕ, _+_, _<_, _≤_, max};
 ghost use lib.ListN.{length, set, replicate};
-ghost use Rattle.store.specs.Entries.{keyOf, roleIn, setIn, mixed, pushed, Searchable, Stored, Leading, At, LookedUp, HasAll, Added};
+ghost use Rattle.store.specs.Entries.{keyOf, roleIn, setIn, mixed, latestIn, pushed, Searchable, Stored, Leading, At, LookedUp, HasAll, Added};
 ghost use Rattle.store.specs.Notes.{noted, levelBy, Leveled};
 
 // One more than the number of the entry with the key, or 0.
 pub fn entry_of(keys: &[u64; 1024], slots: &[u16; 3072], key: u64) -> usize
-    requires { ⌜ Leading (now slots) ⌝ ∗ ⌜ (length (now keys) ≡ 1024) × (length (now slots) ≡ 3072) ⌝ }
+    requires { ⌜ Leading (now slots) ⌝ }
     ensures { λ r. ⌜ LookedUp (now (keys .entry)) (now (slots .entry)) key r ⌝ }
 {
     let p = find(keys, slots, key);
@@ -17,7 +17,7 @@ pub fn entry_of(keys: &[u64; 1024], slots: &[u16; 3072], key: u64) -> usize
 
 // Whether an entry is known to have the key in all spans of m.
 pub fn known(keys: &[u64; 1024], spans: &[u64; 1024], slots: &[u16; 3072], key: u64, m: u64) -> bool
-    requires { ⌜ Leading (now slots) ⌝ ∗ ⌜ (length (now keys) ≡ 1024) × (length (now slots) ≡ 3072) ⌝ }
+    requires { ⌜ Leading (now slots) ⌝ }
     ensures { λ r. ⌜ (r ≡ true → (n : ℕ) → Searchable (now (keys .entry)) (now (slots .entry)) n → HasAll (now (keys .entry)) (now (spans .entry)) n key m) ⌝ }
 {
     let c = entry_of(keys, slots, key);
@@ -47,7 +47,8 @@ pub fn add(
     let p = find(keys, slots, key);
     let c = wide(slots[p]);
     if c != 0 {
-        spans[c - 1] = spans[c - 1] | m;
+        let i = c - 1;
+        spans[i] = spans[i] | m;
         return n;
     }
     if limit <= n {
@@ -64,10 +65,19 @@ pub fn note(notes: &mut [u16; 4096], n: usize, at: u16, first: u16, second: u16)
     ensures { λ _. ⌜ now (notes .exit) ≡ noted (now (notes .entry)) n at first second ⌝ }
 {
     let level = larger(level_by(notes, first), level_by(notes, second)) + 1;
-    notes[4 * n] = at;
-    notes[4 * n + 1] = first;
-    notes[4 * n + 2] = second;
-    notes[4 * n + 3] = level;
+    let p = 4 * n;
+    notes[p] = at;
+    notes[p + 1] = first;
+    notes[p + 2] = second;
+    notes[p + 3] = level;
+}
+
+// One more than the latest entry of a role, or 0.
+pub fn latest(links: &[u16; 2048], role: usize) -> usize
+    requires { ⌜ role < 1024 ⌝ }
+    ensures { λ r. ⌜ r ≡ latestIn (now (links .entry)) role ⌝ }
+{
+    wide(links[1024 + role])
 }
 
 // The key of a role with a set.
@@ -134,7 +144,7 @@ fn mix(key: u64) -> u64
 
 // Where a search for a key ends: at the slot of its entry, or at an empty one.
 fn find(keys: &[u64; 1024], slots: &[u16; 3072], key: u64) -> usize
-    requires { ⌜ Leading (now slots) ⌝ ∗ ⌜ (length (now keys) ≡ 1024) × (length (now slots) ≡ 3072) ⌝ }
+    requires { ⌜ Leading (now slots) ⌝ }
     ensures { λ p. ⌜ At (now (keys .entry)) (now (slots .entry)) key p ⌝ }
 {
     let mut x = mix(key);
@@ -162,7 +172,7 @@ fn append(
     p: usize,
     key: u64,
 )
-    requires { ⌜ (length (now keys) ≡ 1024) × (length (now slots) ≡ 3072) × (length (now links) ≡ 2048) ⌝ ∗ ⌜ (n < 1024) × (p < 3072) × (roleIn key < 1024) ⌝ }
+    requires { ⌜ (n < 1024) × (p < 3072) × (roleIn key < 1024) ⌝ }
     ensures { λ _. ⌜ now (keys .exit) ≡ set (now (keys .entry)) n key ⌝ ∗ ⌜ now (slots .exit) ≡ set (now (slots .entry)) p (n + 1) ⌝ ∗ ⌜ now (links .exit) ≡ pushed (now (links .entry)) n (roleIn key) ⌝ }
 {
     let r = 1024 + role_of(key);
@@ -174,7 +184,7 @@ fn append(
 
 // The level of the entry that a word cites, 0 where it cites none.
 fn level_by(notes: &[u16; 4096], w: u16) -> u16
-    requires { ⌜ (length (now notes) ≡ 4096) × (w ≤ 1024) ⌝ }
+    requires { ⌜ w ≤ 1024 ⌝ }
     ensures { λ r. ⌜ r ≡ levelBy (now (notes .entry)) w ⌝ }
 {
     if w == 0 {

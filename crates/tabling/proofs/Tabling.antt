@@ -11,8 +11,10 @@ use Rattle.policy.specs.Policy.{credentialsOf}
 use Rattle.store.proofs.Stores.{distinct-keys}
 use Rattle.heads.specs.Gaining.{Kept, Gains}
 use Rattle.closure.specs.Closure.{Held, Closed, Finished, TooMany}
-use Rattle.closing.specs.Closing.{Closes}
-use Rattle.loading.specs.Loading.{Spans, UsesLoaded, StatedBy, FactBy, bySpan, Loaded}
+use Rattle.giving.specs.Giving.{Closes}
+use Rattle.masks.specs.Masks.{Spans}
+use Rattle.facts.specs.Facts.{StatedBy, FactBy}
+use Rattle.loading.specs.Loading.{UsesLoaded, bySpan, Loaded}
 use Rattle.loading.proofs.Wholes.{own-spans, loaded, loaded-own}
 use Rattle.writing.specs.Columns.{column}
 use Rattle.writing.specs.Rows.{rowAt, rowsOf, Written}

@@ -103,7 +103,7 @@ fn fill_by(
     ensures { λ r. ⌜ Filled (credentialsOf (now (policy .entry)) credentials) limit (now (keys .exit)) (now (found .exit)) (now (slots .exit)) (now (links .exit)) r ⌝ }
 {
     let mut notes = store::room_for_notes();
-    let n = loading::load_sets(
+    let n = facts::load_sets(
         keys,
         found,
         slots,

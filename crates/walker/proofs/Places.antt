@@ -18,7 +18,7 @@ use Rattle.file.specs.declared.Credential as D
 use Rattle.file.proofs.First.{outcomeOf, first-refusal}
 use Rattle.file.proofs.Sizes.{headed}
 use Rattle.survey.proofs.Surveying.{reading-numbered}
-use Rattle.walker.specs.Walking.{opened, foundAt, nthOf}
+use Rattle.walker.specs.Walking.{opened, foundAt}
 
 -- a credential stands only below N, which is at most 256
 pub found-below : (f : List ℕ) (at number : ℕ) (c : D.Credential) → foundAt f at number ≡ Credential c → at < 256
@@ -47,9 +47,7 @@ module _ (f : List ℕ) (at : ℕ) where
   pub entry-refused : (opened f .number ≡ 0 → ⊥) → read f (foundIn f at) ≡ refused (opened f .number) (opened f .place)
   entry-refused h = by-refusal ∙ rw (ne-eqb (opened f .number) 0 h) refl
 
-  -- another's is what `nth` finds
-  pub entry-found : opened f .number ≡ 0 → (x : Found) → nthOf f at ≡ x → read f (foundIn f at) ≡ done x
+  -- another's is what stands at the place
+  pub entry-found : opened f .number ≡ 0 → (x : Found) → foundIn f at ≡ x → read f (foundIn f at) ≡ done x
   entry-found h x e =
-      let z = eq-eqb (opened f .number) 0 h in
-      let n : nthOf f at ≡ foundIn f at = rw z refl in
-      by-refusal ∙ ap (λ (b : Bool). if b (done (foundIn f at)) (refused (opened f .number) (opened f .place))) z ∙ ap (λ (y : Found). done y) (sym n ∙ e)
+      by-refusal ∙ ap (λ (b : Bool). if b (done (foundIn f at)) (refused (opened f .number) (opened f .place))) (eq-eqb (opened f .number) 0 h) ∙ ap (λ (y : Found). done y) e

@@ -44,10 +44,6 @@ credentialOf w = foundAt (now (w .file)) (w .at) (w .number)
 abbrev pub refusalIn : Walker → Refusal
 refusalIn w = record { number = w .number; place = w .place }
 
--- the credential at a place of a file that passes 1 to 8
-abbrev pub nthOf : List ℕ → ℕ → Found
-nthOf f at = foundAt f at (opened f .number)
-
 -- an entry as an outcome: what stands at the place, or document 01's number and place
 abbrev pub saysEntry : E.Entry → Outcome Found
 saysEntry (N.Credential c) = done (Credential c)

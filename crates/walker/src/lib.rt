@@ -2,7 +2,7 @@
 ghost use mathlib.Core.Path.{_≡_};
 ghost use Rattle.file.specs.Reading.{read};
 ghost use Rattle.file.specs.Values.{foundIn};
-ghost use Rattle.walker.specs.Walking.{opened, walkerOf, placeAfter, nextOf, foundAt, credentialOf, refusalIn, nthOf, saysEntry};
+ghost use Rattle.walker.specs.Walking.{opened, walkerOf, placeAfter, nextOf, foundAt, credentialOf, refusalIn, saysEntry};
 
 // The credential at place `at` of the file. A refused walker carries the refusal's number and place, and is at its end.
 pub struct Walker<'a> {
@@ -110,15 +110,14 @@ fn place_after(file: &[u8], at: usize, number: u32) -> usize
     }
 }
 
-// The credential at a place of a file; the end also where the file is refused.
+// The credential at a place of a file that passes 1 to 8, by a walker there.
 fn nth(file: &[u8], at: usize) -> file::Found
-    ensures { λ r. ⌜ r ≡ nthOf (now (file .entry)) at ⌝ }
+    ensures { λ r. ⌜ r ≡ foundIn (now (file .entry)) at ⌝ }
 {
-    let w = walk(file);
     credential(Walker {
-        file: w.file,
+        file,
         at,
-        number: w.number,
-        place: w.place,
+        number: 0,
+        place: 0,
     })
 }

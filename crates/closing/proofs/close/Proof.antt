@@ -1,14 +1,13 @@
 -- `closing::close` meets its contract. The loop has closed the entries so far, and all is done after a pass in which none gave.
-use mathlib.Core.Path.{_≡_, ap}
+use mathlib.Core.Path.{_≡_, sym, ap}
 use mathlib.Core.Bool.{true, false}
 use Prim.Native.Nat.{ℕ, _+_, _≤_}
 use native.Mathlib.Omega.{arith}
 use lib.ListN.{getD}
 use Rattle.meaning.specs.Table.{digit}
 use Rattle.closure.specs.Closure.{Finished}
-use Rattle.closing.specs.Closing.{Closes}
-use Rattle.closing.specs.Giving.{lefts}
-use Rattle.closing.proofs.Passes.{closes-none, closes-then}
+use Rattle.giving.specs.Giving.{Closes, lefts}
+use Rattle.closing.proofs.Passes.{true-not-false, closes-none, closes-then}
 use Rattle.closing.proofs.close.Statement.{statement}
 use Rattle.closing.proofs.close.Tie as tie
 
@@ -23,7 +22,7 @@ abbrev looped : tie.After-pass Inv-loop μ-loop → tie.At-loop Inv-loop μ-loop
 looped t = t .before .before .before .before .before .before .before .before
 
 loop-holds : tie.Need-loop-holds Inv-loop μ-loop
-loop-holds c = let p = c .pre in (p .1 .0 .0, closes-none (p .1 .0 .0) (p .0), (λ f. absurd (let z : _≡_ {A = ℕ} 0 1 = cc in omega arith)), λ _. p .1 .1 .1)
+loop-holds c = let p = c .pre in (p .1 .0 .0, closes-none (p .1 .0 .0) (p .0), (λ f. absurd (true-not-false f)), λ _. p .1 .1 .1)
 
 pass-requires : tie.Need-pass-requires Inv-loop μ-loop
 pass-requires c κs =
@@ -45,7 +44,7 @@ loop-again : tie.Need-loop-again Inv-loop μ-loop
 loop-again c =
     let t = c .before in
     let v = looped t .loop .inv in
-    (c .if1 .left, closes-then (v .0) (v .1) (t .pass .ensures .0 .closes), t .pass .ensures .1, λ q. absurd (let z : _≡_ {A = ℕ} 0 1 = cc in omega arith))
+    (c .if1 .left, closes-then (v .0) (v .1) (t .pass .ensures .0 .closes), t .pass .ensures .1, λ q. absurd (true-not-false (sym q)))
 
 returns-2 : tie.Need-returns-2 Inv-loop μ-loop
 returns-2 c = let v = c .before .loop .inv in (v .1, λ l. v .2 (c .loop-test .left))

@@ -1,12 +1,11 @@
 -- `closing::give_new` meets its contract.
-use mathlib.Core.Path.{_≡_, refl, sym, ap, _∙_}
+use mathlib.Core.Path.{refl, sym, ap, _∙_}
 use mathlib.Core.List.{List}
 use Prim.Native.Nat.{ℕ}
-use native.Mathlib.Omega.{arith}
 use borrow.Author.Needs.{needs}
 use lib.ListN.{getD}
 use lib.Seq.{getD-set-other}
-use Rattle.closing.proofs.Passes.{any-none, any-gave}
+use Rattle.closing.proofs.Passes.{true-not-false, any-none, any-gave}
 use Rattle.closing.proofs.give_new.Statement.{statement}
 use Rattle.closing.proofs.give_new.Tie as tie
 
@@ -37,7 +36,7 @@ returns-2 : tie.Need-returns-2
 returns-2 c =
     let s = c .before .before .before .before .before .before .before .before .before .before .args in
     let g = c .give .ensures in
-    (any-gave (s .p .any) g, ((λ f. absurd (let z : _≡_ {A = ℕ} 0 1 = cc in omega arith)), λ i ne. ap (λ (x : List ℕ). getD x i 0) (g .marked) ∙ getD-set-other (s .done .now) (s .v .e) i (getD (s .spans .now) (s .v .e) 0) 0 ne))
+    (any-gave (s .p .any) g, ((λ f. absurd (true-not-false f)), λ i ne. ap (λ (x : List ℕ). getD x i 0) (g .marked) ∙ getD-set-other (s .done .now) (s .v .e) i (getD (s .spans .now) (s .v .e) 0) 0 ne))
 
 pub give-new-spec : {M : Type 1} → statement M
 give-new-spec =

@@ -5,7 +5,7 @@ use Prim.Native.Nat.{ℕ, _-_, _≤_}
 use native.Mathlib.Omega.{arith}
 use lib.ListN.{getD}
 use Rattle.closure.specs.Closure.{Finished}
-use Rattle.closing.specs.Giving.{GaveAny}
+use Rattle.closing.specs.Passes.{GaveAny}
 use Rattle.closing.proofs.Passes.{any-none, any-then, finished-none, finished-next}
 use Rattle.closing.proofs.pass.Statement.{statement}
 use Rattle.closing.proofs.pass.Tie as tie

@@ -2,14 +2,12 @@
 use mathlib.Core.Path.{_≡_}
 use Prim.Native.Nat.{_-_, _<_}
 use native.Mathlib.Omega.{arith}
-use borrow.Author.Needs.{needs}
 use Rattle.store.specs.Entries.{latest}
 use Rattle.rules.specs.Uses.{familyOf, bodiesIn}
 use Rattle.heads.specs.Walks.{Along}
-use Rattle.heads.proofs.Gaining.{gains-by}
-use Rattle.heads.proofs.Walks.{lower, along-start, along-next, along-over, along-end}
+use Rattle.heads.proofs.Walks.{lower, along-start, along-end}
 use Rattle.firing.specs.Firing.{FromFamily}
-use Rattle.firing.proofs.Firings.{ByBody, family-low, bodies-start, bodies-next, all-fires, body-before, body-after, from-body, firing-after, family-after}
+use Rattle.firing.proofs.Firings.{ByBody, family-low, bodies-start, bodies-next, all-fires, firing-after, family-after, fired-over, fired-next}
 use Rattle.firing.proofs.fire.Statement.{statement}
 use Rattle.firing.proofs.fire.Tie as tie
 
@@ -46,7 +44,7 @@ loop-holds : tie.Need-loop-holds Inv-loop μ-loop
 loop-holds c = let s = c .before in let p = s .pre in along-start (p .0 .kept) (p .1 .0 .0) (bodies-start (p .1 .1 .0 .0) (s .args .family) (c .first-body .result) (family-fits s) (c .first-body .ensures))
 
 sub-fire-body : tie.Need-sub-fire-body Inv-loop μ-loop
-sub-fire-body c = search needs
+sub-fire-body c = omega (arith, c .before .before .before .before .before .loop-test .taken)
 
 fire-body-requires : tie.Need-fire-body-requires Inv-loop μ-loop
 fire-body-requires c κs =
@@ -61,20 +59,16 @@ fire-body-requires c κs =
     )
 
 returns : tie.Need-returns Inv-loop μ-loop
-returns c = let b = c .before in
+returns c =
+    let b = c .before in
     let t = looped b in
-    let v = t .before .loop .inv in
     let s = start t in
     let a = s .args in
-    let g = v .gains .grown (v .few) in
-    let o = v .on (t .loop-test .taken) in
-    let e = s .pre .1 .1 .1 .0 .low in
     all-fires (s .pre .1 .1 .0 .0) (a .keys .now) (a .done .now) (a .n) (a .t .e) (a .t .spans) (a .family)
-    (along-over v (t .loop-test .taken) (gains-by (from-body (a .done .now) g (s .pre .0 .fresh) (a .t .e) e (o .0) (o .1)) (b .fire-body .ensures))
-    (body-before (a .done .now) g (s .pre .0 .fresh) (a .t .e) e (a .codes .now) (a .valid .now) (a .lists .now) (a .t .spans) (t .before .loop .at - 1)) (c .if1 .taken))
+    (fired-over (a .t .spans) (s .pre .0 .fresh) (s .pre .1 .1 .1 .0 .low) (t .before .loop .inv) (t .loop-test .taken) (b .fire-body .ensures) (c .if1 .taken))
 
 next-body-requires : tie.Need-next-body-requires Inv-loop μ-loop
-next-body-requires c κs = (search needs, omega (arith, low (looped (c .before))))
+next-body-requires c κs = (omega (arith, looped (c .before) .loop-test .taken), omega (arith, low (looped (c .before))))
 
 loop-less : tie.Need-loop-less Inv-loop μ-loop
 loop-less c = let t = looped (c .before .before) in
@@ -82,17 +76,11 @@ loop-less c = let t = looped (c .before .before) in
     lower (familyOf (a .codes .now)) (a .family) (bodiesIn (a .lists .now)) (t .before .loop .at) (c .next-body .result) (t .loop-test .taken) (next c)
 
 loop-again : tie.Need-loop-again Inv-loop μ-loop
-loop-again c = let b = c .before .before in
+loop-again c =
+    let b = c .before .before in
     let t = looped b in
-    let v = t .before .loop .inv in
     let s = start t in
-    let a = s .args in
-    let g = v .gains .grown (v .few) in
-    let o = v .on (t .loop-test .taken) in
-    let e = s .pre .1 .1 .1 .0 .low in
-    along-next v (t .loop-test .taken) (gains-by (from-body (a .done .now) g (s .pre .0 .fresh) (a .t .e) e (o .0) (o .1)) (b .fire-body .ensures))
-    (body-before (a .done .now) g (s .pre .0 .fresh) (a .t .e) e (a .codes .now) (a .valid .now) (a .lists .now) (a .t .spans) (t .before .loop .at - 1))
-    (body-after (a .done .now) g (s .pre .0 .fresh) (a .t .e) e (a .codes .now) (a .valid .now) (a .lists .now) (a .t .spans) (t .before .loop .at - 1)) (c .before .if1 .left) (next c)
+    fired-next (s .args .t .spans) (s .pre .0 .fresh) (s .pre .1 .1 .1 .0 .low) (t .before .loop .inv) (t .loop-test .taken) (b .fire-body .ensures) (c .before .if1 .left) (next c)
 
 returns-2 : tie.Need-returns-2 Inv-loop μ-loop
 returns-2 c = let t = c .before in

@@ -2,7 +2,6 @@
 use mathlib.Core.Path.{_≡_, ap, _∙_}
 use Prim.Native.Nat.{ℕ, _≤_, _<_}
 use native.Mathlib.Omega.{arith}
-use borrow.Author.Needs.{needs}
 use Rattle.store.specs.Entries.{keyOf}
 use Rattle.rules.specs.Uses.{headOf}
 use Rattle.heads.specs.Heads.{credentialBy, firstBy, secondBy}
@@ -22,16 +21,16 @@ few : (t : tie.After-add) → t .add .result ≤ start t .args .g .limit → (t 
 few t l ne = omega (arith, added-last (start t .pre .0) (t .add .ensures) l ne, start t .pre .1 .0 .1)
 
 head-role-requires : tie.Need-head-role-requires
-head-role-requires c κs = search needs
+head-role-requires c κs = omega (arith, c .pre .1 .0 .2)
 
 key-of-requires : tie.Need-key-of-requires
-key-of-requires c κs = search needs
+key-of-requires c κs = (omega (arith, c .head-role .ensures), c .before .pre .1 .1 .0)
 
 mul-add : tie.Need-mul-add
-mul-add c = search needs
+mul-add c = omega (arith, c .before .before .before .before .before .before .pre .1 .0 .2)
 
 element-copy-out-add : tie.Need-element-copy-out-add
-element-copy-out-add c = search needs
+element-copy-out-add c = omega (arith, c .before .before .before .before .before .before .pre .1 .0 .2)
 
 add-requires : tie.Need-add-requires
 add-requires c κs =
@@ -46,7 +45,7 @@ returns-2 : tie.Need-returns-2
 returns-2 c = let t = c .before .before in gains-key _ (keyed t) (gains-old (start t .pre .0) (t .add .ensures) (c .if2 .taken))
 
 source-of-requires : tie.Need-source-of-requires
-source-of-requires c κs = search needs
+source-of-requires c κs = omega (arith, start (c .before .before .before) .pre .1 .0 .2)
 
 note-head-requires : tie.Need-note-head-requires
 note-head-requires c κs =

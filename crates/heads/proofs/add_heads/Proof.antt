@@ -2,14 +2,12 @@
 use mathlib.Core.Path.{_≡_}
 use Prim.Native.Nat.{_-_, _<_}
 use native.Mathlib.Omega.{arith}
-use borrow.Author.Needs.{needs}
 use Rattle.store.specs.Entries.{latest}
 use Rattle.rules.specs.Uses.{bodyOfHead, headsIn}
 use Rattle.heads.specs.Walks.{Along}
 use Rattle.heads.specs.Heads.{ByHead, FromHeads, TheOne}
-use Rattle.heads.proofs.Gaining.{gains-by}
-use Rattle.heads.proofs.Walks.{lower, along-start, along-next, along-over, along-end}
-use Rattle.heads.proofs.Heads.{heads-start, heads-next, from-head, headed-all}
+use Rattle.heads.proofs.Walks.{lower, along-start, along-end}
+use Rattle.heads.proofs.Heads.{heads-start, heads-next, headed-all, heads-over, heads-turn}
 use Rattle.heads.proofs.add_heads.Statement.{statement}
 use Rattle.heads.proofs.add_heads.Tie as tie
 
@@ -43,7 +41,7 @@ loop-holds : tie.Need-loop-holds Inv-loop μ-loop
 loop-holds c = let s = c .before in let p = s .pre .0 in along-start (p .kept) (p .few .0) (heads-start (p .listed) (s .args .g .body) (c .first-head .result) (omega (arith, p .low, p .listed .few)) (c .first-head .ensures))
 
 sub-add-head : tie.Need-sub-add-head Inv-loop μ-loop
-sub-add-head c = search needs
+sub-add-head c = omega (arith, c .before .before .before .before .before .loop-test .taken)
 
 add-head-requires : tie.Need-add-head-requires Inv-loop μ-loop
 add-head-requires c κs =
@@ -57,13 +55,11 @@ returns : tie.Need-returns Inv-loop μ-loop
 returns c =
     let a = c .before in
     let t = looped a in
-    let v = t .before .loop .inv in
-    let o = v .on (t .loop-test .taken) in
     let g = start t .args .g in
-    headed-all (g .set) (g .spans) (along-over v (t .loop-test .taken) (gains-by (from-head (o .0) (o .1)) (a .add-head .ensures)) (λ k s w. w) (c .if1 .taken))
+    heads-over (start t .args .valid .now) (g .set) (g .spans) (t .before .loop .inv) (t .loop-test .taken) (a .add-head .ensures) (c .if1 .taken)
 
 next-head-requires : tie.Need-next-head-requires Inv-loop μ-loop
-next-head-requires c κs = (search needs, omega (arith, low (looped (c .before))))
+next-head-requires c κs = (omega (arith, looped (c .before) .loop-test .taken), omega (arith, low (looped (c .before))))
 
 loop-less : tie.Need-loop-less Inv-loop μ-loop
 loop-less c = let t = looped (c .before .before) in
@@ -74,9 +70,8 @@ loop-again : tie.Need-loop-again Inv-loop μ-loop
 loop-again c =
     let a = c .before .before in
     let t = looped a in
-    let v = t .before .loop .inv in
-    let o = v .on (t .loop-test .taken) in
-    along-next v (t .loop-test .taken) (gains-by (from-head (o .0) (o .1)) (a .add-head .ensures)) (λ k s w. w) (λ k s w. w) (c .before .if1 .left) (next c)
+    let g = start t .args .g in
+    heads-turn (start t .args .valid .now) (g .set) (g .spans) (t .before .loop .inv) (t .loop-test .taken) (a .add-head .ensures) (c .before .if1 .left) (next c)
 
 returns-2 : tie.Need-returns-2 Inv-loop μ-loop
 returns-2 c = let t = c .before in let g = t .before .before .args .g in headed-all (g .set) (g .spans) (along-end (t .loop .inv) (c .loop-test .left))

@@ -31,6 +31,9 @@ array-copy-out-x c = search needs
 print-interval-requires : tie.Need-print-interval-requires Inv-loop μ-loop
 print-interval-requires c κs = search needs
 
+returns-2 : tie.Need-returns-2 Inv-loop μ-loop
+returns-2 c = search needs
+
 add-i : tie.Need-add-i Inv-loop μ-loop
 add-i c = search needs
 
@@ -40,8 +43,8 @@ loop-less c = search needs
 loop-again : tie.Need-loop-again Inv-loop μ-loop
 loop-again c = search needs
 
-returns-2 : tie.Need-returns-2 Inv-loop μ-loop
-returns-2 c = search needs
+returns-3 : tie.Need-returns-3 Inv-loop μ-loop
+returns-3 c = search needs
 
 pub print-membership-spec : {M : Type 1} → statement M
 print-membership-spec =
@@ -56,7 +59,8 @@ print-membership-spec =
     mul-x
     array-copy-out-x
     print-interval-requires
+    returns-2
     add-i
     loop-less
     loop-again
-    returns-2)
+    returns-3)

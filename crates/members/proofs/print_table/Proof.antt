@@ -37,6 +37,9 @@ element-copy-out-print-membership-3 c = search needs
 print-membership-requires : tie.Need-print-membership-requires Inv-loop μ-loop
 print-membership-requires c κs = search needs
 
+returns-2 : tie.Need-returns-2 Inv-loop μ-loop
+returns-2 c = search needs
+
 add-i : tie.Need-add-i Inv-loop μ-loop
 add-i c = search needs
 
@@ -46,8 +49,8 @@ loop-less c = search needs
 loop-again : tie.Need-loop-again Inv-loop μ-loop
 loop-again c = search needs
 
-returns-2 : tie.Need-returns-2 Inv-loop μ-loop
-returns-2 c = search needs
+returns-3 : tie.Need-returns-3 Inv-loop μ-loop
+returns-3 c = search needs
 
 pub print-table-spec : {M : Type 1} → statement M
 print-table-spec =
@@ -64,7 +67,8 @@ print-table-spec =
     mul-print-membership-3
     element-copy-out-print-membership-3
     print-membership-requires
+    returns-2
     add-i
     loop-less
     loop-again
-    returns-2)
+    returns-3)

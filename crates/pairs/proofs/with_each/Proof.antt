@@ -18,17 +18,11 @@ with-head-requires c κs =
 returns : tie.Need-returns
 returns c = c .with-head .ensures
 
-room-requires : tie.Need-room-requires
-room-requires c κs = tt
-
-with-room-requires : tie.Need-with-room-requires
-with-room-requires c κs =
-    let r = c .before .before .before .before .before .before in
-    let p = r .before .before .before .pre in
-    (p .0, (p .1, r .room .ensures))
+with-heads-requires : tie.Need-with-heads-requires
+with-heads-requires c κs = c .before .before .before .before .before .before .before .pre
 
 returns-2 : tie.Need-returns-2
-returns-2 c = c .with-room .ensures
+returns-2 c = c .with-heads .ensures
 
 pub with-each-spec : {M : Type 1} → statement M
 with-each-spec =
@@ -38,6 +32,5 @@ with-each-spec =
     sub-with-head
     with-head-requires
     returns
-    room-requires
-    with-room-requires
+    with-heads-requires
     returns-2)

@@ -18,22 +18,11 @@ add-result c = search needs
 returns : tie.Need-returns
 returns c = let w = both _ _ (c .before .if1 .taken) in inl (w .0, eqb-true _ _ (w .1), omega arith)
 
-add-wide : tie.Need-add-wide
-add-wide c = search needs
-
-mul-wide : tie.Need-mul-wide
-mul-wide c = search needs
-
-element-copy-out-wide : tie.Need-element-copy-out-wide
-element-copy-out-wide c = search needs
-
-wide-requires : tie.Need-wide-requires
-wide-requires c κs = search needs
+latest-requires : tie.Need-latest-requires
+latest-requires c κs = c .before .before .pre .0
 
 returns-2 : tie.Need-returns-2
-returns-2 c = inr (c .wide .ensures .0)
+returns-2 c = inr (c .latest .ensures)
 
 pub start-at-spec : {M : Type 1} → statement M
-start-at-spec =
-    tie.close
-    (tie.spec add-result returns add-wide mul-wide element-copy-out-wide wide-requires returns-2)
+start-at-spec = tie.close (tie.spec add-result returns latest-requires returns-2)

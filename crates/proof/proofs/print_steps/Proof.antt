@@ -16,11 +16,11 @@ loop-holds c = search needs
 returns : tie.Need-returns Inv-loop μ-loop
 returns c = search needs
 
-mul-print-step : tie.Need-mul-print-step Inv-loop μ-loop
-mul-print-step c = search needs
+mul-t11 : tie.Need-mul-t11 Inv-loop μ-loop
+mul-t11 c = search needs
 
-element-copy-out-print-step : tie.Need-element-copy-out-print-step Inv-loop μ-loop
-element-copy-out-print-step c = search needs
+element-copy-out-t14 : tie.Need-element-copy-out-t14 Inv-loop μ-loop
+element-copy-out-t14 c = search needs
 
 mul-t15 : tie.Need-mul-t15 Inv-loop μ-loop
 mul-t15 c = search needs
@@ -34,17 +34,20 @@ mul-t19 c = search needs
 element-copy-out-t22 : tie.Need-element-copy-out-t22 Inv-loop μ-loop
 element-copy-out-t22 c = search needs
 
-mul-t23 : tie.Need-mul-t23 Inv-loop μ-loop
-mul-t23 c = search needs
+mul-print-step : tie.Need-mul-print-step Inv-loop μ-loop
+mul-print-step c = search needs
 
-element-copy-out-t26 : tie.Need-element-copy-out-t26 Inv-loop μ-loop
-element-copy-out-t26 c = search needs
+element-copy-out-print-step : tie.Need-element-copy-out-print-step Inv-loop μ-loop
+element-copy-out-print-step c = search needs
 
 cast-print-step : tie.Need-cast-print-step Inv-loop μ-loop
 cast-print-step c = search needs
 
 print-step-requires : tie.Need-print-step-requires Inv-loop μ-loop
 print-step-requires c κs = search needs
+
+returns-2 : tie.Need-returns-2 Inv-loop μ-loop
+returns-2 c = search needs
 
 add-i : tie.Need-add-i Inv-loop μ-loop
 add-i c = search needs
@@ -55,8 +58,8 @@ loop-less c = search needs
 loop-again : tie.Need-loop-again Inv-loop μ-loop
 loop-again c = search needs
 
-returns-2 : tie.Need-returns-2 Inv-loop μ-loop
-returns-2 c = search needs
+returns-3 : tie.Need-returns-3 Inv-loop μ-loop
+returns-3 c = search needs
 
 pub print-steps-spec : {M : Type 1} → statement M
 print-steps-spec =
@@ -66,17 +69,18 @@ print-steps-spec =
     μ-loop
     loop-holds
     returns
-    mul-print-step
-    element-copy-out-print-step
+    mul-t11
+    element-copy-out-t14
     mul-t15
     element-copy-out-t18
     mul-t19
     element-copy-out-t22
-    mul-t23
-    element-copy-out-t26
+    mul-print-step
+    element-copy-out-print-step
     cast-print-step
     print-step-requires
+    returns-2
     add-i
     loop-less
     loop-again
-    returns-2)
+    returns-3)

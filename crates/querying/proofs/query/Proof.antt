@@ -1,15 +1,13 @@
 -- `querying::query` meets its contract: the refusals of the request, then 10, 13 or a proof.
-use mathlib.Core.Path.{refl, _∙_, subst⁻¹}
-use Rattle.meaning.specs.Credentials.{FitsAll}
+use mathlib.Core.Path.{refl, subst⁻¹}
 use Rattle.file.specs.declared.Refusal.{Refusal}
 use Rattle.file.specs.Refusals.{Outcome}
-use Rattle.file.proofs.Accepted.{accepted-fits}
 use Rattle.asking.specs.declared.Admission.{Admission}
-use Rattle.asking.specs.Asking.{Request, request, StepLists, stepLists}
+use Rattle.asking.specs.Asking.{Request, request, StepLists, stepLists, Askable}
 use Rattle.asking.proofs.Asked.{askable}
 use Rattle.querying.specs.Querying.{Counts, Queried}
-use Rattle.querying.proofs.Working.{same-lengths, role-below}
-use Rattle.querying.proofs.Replies.{cleared, request-refused, search-refused, proof-given}
+use Rattle.querying.proofs.Working.{same-lengths, role-below, writable}
+use Rattle.querying.proofs.Replies.{request-refused, queried}
 use borrow.Author.Needs.{needs}
 use Rattle.querying.proofs.query.Statement.{statement}
 use Rattle.querying.proofs.query.Tie as tie
@@ -23,12 +21,15 @@ t s = stepLists (s .args .credential .now) (s .args .first .now) (s .args .secon
 abbrev asked : Admission → Refusal
 asked j = record { number = j .number; place = j .place }
 
--- the function's entry, and where the request was judged, from where the search was made
-abbrev entry : tie.After-run → tie.Start
-entry w = w .before .before .before .before .before .before .before .before .before .before .before .before .before .before .before .before .before .before .before .before
+-- the function's entry, from where the request was judged, and that from where it was not refused
+abbrev entry : tie.After-judge → tie.Start
+entry j = j .before .before .before .before .before .before .before .before .before .before .before .before
 
-abbrev judging : tie.After-run → tie.After-judge
-judging w = w .before .before .before .before .before .before .before .before
+abbrev judged : tie.Else1 → tie.After-judge
+judged c = c .before .before
+
+passes : (c : tie.Else1) → let s = entry (judged c) in Askable (s .args .file .now) (q s) (t s)
+passes c = let s = entry (judged c) in let j = judged c .judge in askable (s .args .file .now) (q s) (t s) (asked (j .result)) (j .ensures .refusal) (c .if1 .left)
 
 room-requires : tie.Need-room-requires
 room-requires c κs = search needs
@@ -53,70 +54,49 @@ same-length-4 c = refl
 
 returns : tie.Need-returns
 returns c =
-    let s = c .before .before .before .before .before .before .before .before .before .before .before .before .before .before .before in
-    let j = c .before .before .before .judge in
+    let j = c .before .before .before in
+    let s = entry j in
     subst⁻¹ (λ (o : Outcome Counts). Queried (s .args .file .now) (q s) (t s) o (t s)) (c .refused .ensures)
-    (request-refused (s .args .file .now) (q s) (t s) (asked (j .result)) (j .ensures .refusal) (c .before .if1 .taken))
+    (request-refused (s .args .file .now) (q s) (t s) (asked (j .judge .result)) (j .judge .ensures .refusal) (c .before .if1 .taken))
 
-run-requires : tie.Need-run-requires
-run-requires c κs =
-    let s = c .before .before .before .before .before .before .before .before .before .before .before .before .before .before .before .before .before .before .before in
-    let j = c .before .before .before .before .before .before .before .judge in
-    let z = c .before .before .before .before .before .if1 .left in
-    let k = askable (s .args .file .now) (q s) (t s) (asked (j .result)) (j .ensures .refusal) z in
-    let p = j .ensures .policy z in
-    (p .decoded, (subst⁻¹ FitsAll (p .means) (accepted-fits (s .args .file .now) (k .accepted)), (role-below k, same-lengths (t s) (k .lists))))
+room-for-keys-requires : tie.Need-room-for-keys-requires
+room-for-keys-requires c κs = search needs
 
-clear-from-requires : tie.Need-clear-from-requires
-clear-from-requires c κs = search needs
+room-for-notes-requires : tie.Need-room-for-notes-requires
+room-for-notes-requires c κs = search needs
 
-refused-requires-2 : tie.Need-refused-requires-2
-refused-requires-2 c κs = search needs
+find-requires : tie.Need-find-requires
+find-requires c κs =
+    let e = c .before .before .before .before .before in
+    let k = passes e in
+    (judged e .judge .ensures .policy (e .if1 .left) .decoded, ((c .before .before .before .before .room-for-keys .ensures, c .before .before .before .room-for-notes .ensures), (role-below k, same-lengths (t (entry (judged e))) (k .lists) .3)))
+
+hand-out-requires : tie.Need-hand-out-requires
+hand-out-requires c κs =
+    let f = c .before .before .before .before .before .before in
+    let e = f .before .before .before .before .before .before in
+    (same-lengths (t (entry (judged e))) (passes e .lists), λ z. writable (f .find .ensures .shows z))
 
 same-length-5 : tie.Need-same-length-5
-same-length-5 c = c .before .before .before .before .before .before .before .before .before .clear-from .kept .0 ∙ c .before .before .before .before .before .before .before .before .before .before .before .before .before .before .before .before .before .before .before .before .before .before .before .before .run .kept .0
+same-length-5 c = c .before .before .before .before .before .before .before .before .hand-out .kept .0
 
 same-length-6 : tie.Need-same-length-6
-same-length-6 c = c .before .before .before .before .before .before .before .before .before .clear-from .kept .1 .0 ∙ c .before .before .before .before .before .before .before .before .before .before .before .before .before .before .before .before .before .before .before .before .before .before .before .before .run .kept .1 .0
+same-length-6 c = c .before .before .before .before .before .before .before .before .hand-out .kept .1 .0
 
 same-length-7 : tie.Need-same-length-7
-same-length-7 c = c .before .before .before .before .before .before .before .before .before .clear-from .kept .1 .1 .0 ∙ c .before .before .before .before .before .before .before .before .before .before .before .before .before .before .before .before .before .before .before .before .before .before .before .before .run .kept .1 .1 .0
+same-length-7 c = c .before .before .before .before .before .before .before .before .hand-out .kept .1 .1 .0
 
 same-length-8 : tie.Need-same-length-8
-same-length-8 c = c .before .before .before .before .before .before .before .before .before .clear-from .kept .1 .1 .1 .0 ∙ c .before .before .before .before .before .before .before .before .before .before .before .before .before .before .before .before .before .before .before .before .before .before .before .before .run .kept .1 .1 .1 .0
+same-length-8 c = c .before .before .before .before .before .before .before .before .hand-out .kept .1 .1 .1 .0
 
 returns-2 : tie.Need-returns-2
 returns-2 c =
-    let w = c .before .before .before .before .before .before .before .before .before .before .before .before .before .before .before .before .before .before .before .before .before .before .before .before in
-    let s = entry w in
-    let j = judging w .judge in
-    let z = w .before .before .before .before .before .before .if1 .left in
-    let l = w .run .last in
-    let k = c .before .before .before .before .before .before .before .before .before .clear-from in
-    let e = k .ensures in
-    subst⁻¹ (λ (o : Outcome Counts). Queried (s .args .file .now) (q s) (t s) o (stepLists (k .last .0) (k .last .1 .0) (k .last .1 .1 .0) (k .last .1 .1 .1 .0))) (c .refused2 .ensures)
-    (search-refused (s .args .file .now) (q s) (t s) (asked (j .result)) (j .ensures .refusal) z (j .ensures .policy z .means) refl (w .run .ensures) (c .before .before .before .before .before .before .before .before .before .before .before .before .before .before .if2 .taken)
-    (cleared (l .0) (e .0) (w .run .kept .0)) (cleared (l .1 .0) (e .1) (w .run .kept .1 .0)) (cleared (l .1 .1 .0) (e .2) (w .run .kept .1 .1 .0)) (cleared (l .1 .1 .1 .0) (e .3) (w .run .kept .1 .1 .1 .0)))
-
-same-length-9 : tie.Need-same-length-9
-same-length-9 c = c .before .before .before .before .before .before .before .before .before .before .run .kept .0
-
-same-length-10 : tie.Need-same-length-10
-same-length-10 c = c .before .before .before .before .before .before .before .before .before .before .run .kept .1 .0
-
-same-length-11 : tie.Need-same-length-11
-same-length-11 c = c .before .before .before .before .before .before .before .before .before .before .run .kept .1 .1 .0
-
-same-length-12 : tie.Need-same-length-12
-same-length-12 c = c .before .before .before .before .before .before .before .before .before .before .run .kept .1 .1 .1 .0
-
-returns-3 : tie.Need-returns-3
-returns-3 c =
-    let w = c .before .before .before .before .before .before .before .before .before .before in
-    let s = entry w in
-    let j = judging w .judge in
-    let z = w .before .before .before .before .before .before .if1 .left in
-    proof-given (s .args .file .now) (q s) (t s) (asked (j .result)) (j .ensures .refusal) z (j .ensures .policy z .means) refl (w .run .ensures) (c .if2 .left)
+    let h = c .before .before .before .before .before .before .before .before in
+    let f = h .before .before .before .before .before .before .before in
+    let e = f .before .before .before .before .before .before in
+    let j = judged e .judge in
+    let s = entry (judged e) in
+    queried (s .args .file .now) (q s) (t s) (asked (j .result)) (j .ensures .refusal) (e .if1 .left) (j .ensures .policy (e .if1 .left) .means) (f .find .ensures) (s .fits .set .fits) (h .hand-out .ensures)
 
 pub query-spec : {M : Type 1} → statement M
 query-spec =
@@ -130,16 +110,12 @@ query-spec =
     same-length-3
     same-length-4
     returns
-    run-requires
-    clear-from-requires
-    refused-requires-2
+    room-for-keys-requires
+    room-for-notes-requires
+    find-requires
+    hand-out-requires
     same-length-5
     same-length-6
     same-length-7
     same-length-8
-    returns-2
-    same-length-9
-    same-length-10
-    same-length-11
-    same-length-12
-    returns-3)
+    returns-2)

@@ -6,7 +6,6 @@ use lib.ListN.{getD, set}
 use Rattle.store.specs.Entries.{EntryOf}
 use Rattle.store.proofs.Searches.{leading, entry-at}
 use Rattle.store.proofs.Adding.{added-none, added-known, added-over, added-by}
-use borrow.Author.Needs.{needs}
 use Rattle.store.proofs.add.Statement.{statement}
 use Rattle.store.proofs.add.Tie as tie
 
@@ -34,31 +33,28 @@ returns c =
 find-requires : tie.Need-find-requires
 find-requires c κs =
     let s = c .before .before .before in
-    (leading (s .args .keys .now) (s .args .slots .now) (s .args .n) (s .pre .0 .searchable) (s .pre .0 .few), search needs)
+    leading (s .args .keys .now) (s .args .slots .now) (s .args .n) (s .pre .0 .searchable) (s .pre .0 .few)
 
 mul-wide : tie.Need-mul-wide
-mul-wide c = search needs
+mul-wide c = omega (arith, c .find .ensures .within)
 
 element-copy-out-wide : tie.Need-element-copy-out-wide
-element-copy-out-wide c = search needs
+element-copy-out-wide c = c .find .ensures .within
 
 wide-requires : tie.Need-wide-requires
-wide-requires c κs = search needs
+wide-requires c κs = tt
 
-sub-spans : tie.Need-sub-spans
-sub-spans c = search needs
+sub-i : tie.Need-sub-i
+sub-i c = omega (arith, c .if2 .taken)
 
 mul-spans : tie.Need-mul-spans
-mul-spans c = search needs
+mul-spans c = let u = known c in omega (arith, start (c .before) .pre .0 .few)
 
 element-copy-out-spans : tie.Need-element-copy-out-spans
 element-copy-out-spans c = let u = known c in omega (arith, start (c .before) .pre .0 .few)
 
-sub-spans-2 : tie.Need-sub-spans-2
-sub-spans-2 c = search needs
-
 mul-spans-2 : tie.Need-mul-spans-2
-mul-spans-2 c = search needs
+mul-spans-2 c = let u = known (c .before) in omega (arith, start (c .before .before) .pre .0 .few)
 
 element-write-spans : tie.Need-element-write-spans
 element-write-spans c = let u = known (c .before) in omega (arith, start (c .before .before) .pre .0 .few)
@@ -72,7 +68,7 @@ returns-2 c =
     added-known (a .limit) (a .key) (a .m) (a .keys .now) (a .spans .now) (a .slots .now) (a .links .now) (a .n) (h .0) (w .wide .result - 1) (h .1 .1) (h .1 .0) (u .0) (u .1)
 
 add-result : tie.Need-add-result
-add-result c = search needs
+add-result c = omega (arith, start (c .before .before) .pre .1)
 
 returns-3 : tie.Need-returns-3
 returns-3 c =
@@ -82,16 +78,20 @@ returns-3 c =
     added-over (a .limit) (a .key) (a .m) (a .keys .now) (a .spans .now) (a .slots .now) (a .links .now) (a .n) (h .0) (h .1 .1) (c .if3 .taken) (found w .before .before .before .if1 .left) (entry w .absent (sym (w .wide .ensures .0) ∙ c .before .if2 .left))
 
 append-requires : tie.Need-append-requires
-append-requires c κs = search needs
+append-requires c κs =
+    let t = c .before .before .before in
+    let w = t .before .before in
+    let h = start w .pre .1 in
+    (omega (arith, t .if3 .left), found w .find .ensures .within, h .3)
 
 mul-spans-3 : tie.Need-mul-spans-3
-mul-spans-3 c = search needs
+mul-spans-3 c = let t = c .before .before .before .before in omega (arith, t .if3 .left, start (t .before .before) .pre .1)
 
 element-write-spans-2 : tie.Need-element-write-spans-2
-element-write-spans-2 c = search needs
+element-write-spans-2 c = let t = c .before .before .before .before in omega (arith, t .if3 .left, start (t .before .before) .pre .1)
 
 add-result-2 : tie.Need-add-result-2
-add-result-2 c = search needs
+add-result-2 c = let t = c .before .before .before .before in omega (arith, t .if3 .left, start (t .before .before) .pre .1)
 
 returns-4 : tie.Need-returns-4
 returns-4 c =
@@ -114,10 +114,9 @@ add-spec =
     mul-wide
     element-copy-out-wide
     wide-requires
-    sub-spans
+    sub-i
     mul-spans
     element-copy-out-spans
-    sub-spans-2
     mul-spans-2
     element-write-spans
     returns-2

@@ -25,7 +25,7 @@ returns c =
     let a = s .args in
     let e = c .wide .ensures .0 in
     record {
-      within = slot-low (a .keys .now) (a .slots .now) (s .pre .0) (f .find .result) (c .wide .result) e;
+      within = slot-low (a .keys .now) (a .slots .now) (s .pre) (f .find .result) (c .wide .result) e;
       entry = λ n o. subst⁻¹ (EntryOf (a .keys .now) n (a .key)) e (entry-at (a .keys .now) (a .slots .now) n o (f .find .ensures));
     }
 

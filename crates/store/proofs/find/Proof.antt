@@ -23,7 +23,7 @@ used : (c : tie.Else1 Inv-loop μ-loop) → (c .before .wide .result ≤ 1024) �
 used c =
     let l = c .before .before .before in
     let a = start l .args in
-    slot-used (a .keys .now) (a .slots .now) (start l .pre .0) (l .loop .p) (c .before .wide .result) (c .before .wide .ensures .0) (c .if1 .left)
+    slot-used (a .keys .now) (a .slots .now) (start l .pre) (l .loop .p) (c .before .wide .result) (c .before .wide .ensures .0) (c .if1 .left)
 
 mix-requires : tie.Need-mix-requires Inv-loop μ-loop
 mix-requires c κs = tt
@@ -46,7 +46,7 @@ returns : tie.Need-returns Inv-loop μ-loop
 returns c =
     let l = c .before .before .before in
     let a = start l .args in
-    at-empty (a .keys .now) (a .slots .now) (start l .pre .0) (l .loop .p) (c .before .wide .result) (c .before .wide .ensures .0) (a .key) (l .loop .inv .0) (l .loop .inv .1 (l .loop .p) here) (c .if1 .taken)
+    at-empty (a .keys .now) (a .slots .now) (start l .pre) (l .loop .p) (c .before .wide .result) (c .before .wide .ensures .0) (a .key) (l .loop .inv .0) (l .loop .inv .1 (l .loop .p) here) (c .if1 .taken)
 
 sub-if2 : tie.Need-sub-if2 Inv-loop μ-loop
 sub-if2 c = omega arith
@@ -62,7 +62,7 @@ returns-2 c =
     let t = c .before .before in
     let l = t .before .before .before in
     let a = start l .args in
-    at-entry (a .keys .now) (a .slots .now) (start l .pre .0) (l .loop .p) (t .before .wide .result) (t .before .wide .ensures .0) (a .key) (l .loop .inv .0) (l .loop .inv .1 (l .loop .p) here) (c .if2 .taken)
+    at-entry (a .keys .now) (a .slots .now) (start l .pre) (l .loop .p) (t .before .wide .result) (t .before .wide .ensures .0) (a .key) (l .loop .inv .0) (l .loop .inv .1 (l .loop .p) here) (c .if2 .taken)
 
 mul-p : tie.Need-mul-p Inv-loop μ-loop
 mul-p c = let u = used (c .before .before) in omega arith

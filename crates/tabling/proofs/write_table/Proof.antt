@@ -1,5 +1,4 @@
 -- `tabling::write_table` meets its contract.
-use mathlib.Core.Path.{sym}
 use Rattle.policy.proofs.Policies.{decoded-fits}
 use Rattle.writing.proofs.Writing.{stored-linked}
 use Rattle.tabling.proofs.Tabling.{worked-over, worked}
@@ -30,21 +29,12 @@ fill-requires c κs =
 returns : tie.Need-returns
 returns c = worked-over (decoded-fits _ _ (start (c .before) .pre .0 .decoded)) _ (c .if1 .taken) (c .before .fill .ensures .over (c .if1 .taken))
 
-slice-aggregate-write-rows : tie.Need-slice-aggregate-write-rows
-slice-aggregate-write-rows c = sym (c .before .before .fill .ensures .stored (c .before .if1 .left) .room .0)
-
-slice-aggregate-write-rows-2 : tie.Need-slice-aggregate-write-rows-2
-slice-aggregate-write-rows-2 c = sym (c .before .before .before .fill .ensures .room (c .before .before .if1 .left))
-
-slice-aggregate-write-rows-3 : tie.Need-slice-aggregate-write-rows-3
-slice-aggregate-write-rows-3 c = sym (c .before .before .before .before .fill .ensures .stored (c .before .before .before .if1 .left) .room .2)
-
 write-rows-requires : tie.Need-write-rows-requires
 write-rows-requires c κs =
     let k = c .before .before .before .before .before .before in
     let f = k .before .fill .ensures in
     let q = start (k .before) .pre .1 in
-    (stored-linked (f .stored (k .if1 .left)), (f .room (k .if1 .left), q .0, q .1, k .if1 .left))
+    (stored-linked (f .stored (k .if1 .left)), (q .0, q .1, k .if1 .left))
 
 same-length : tie.Need-same-length
 same-length c = c .before .before .before .before .before .before .write-rows .kept .1 .1 .1 .1 .0
@@ -70,9 +60,6 @@ write-table-spec =
     room-for-links-requires
     fill-requires
     returns
-    slice-aggregate-write-rows
-    slice-aggregate-write-rows-2
-    slice-aggregate-write-rows-3
     write-rows-requires
     same-length
     same-length-2

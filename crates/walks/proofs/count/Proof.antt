@@ -21,7 +21,7 @@ use prog.Wp.{Heap, Out, Env, afterSeq, afterBlock, afterTurn, Wp, atReturn, WpFn
 use ghost.Atoms.{Atoms, sem}
 use contract.Monad.{Fun}
 use contract.Running.{givenOf, tables, tablesOf}
-use types.Kit.{Given, Item, Go, Seq, runs, ‵, raw, _⊛_, ⋆, anyQ, atRet, _$_, _∵_, !, qed, by, move, drop, use0, use1, use2, split, join, fsplit, fjoin, suffices, frame, done, rewrite}
+use types.Kit.{Given, Item, Go, Seq, runs, ‵, raw, _⊛_, ⋆, anyQ, atRet, _$_, _∵_, !, qed, move, drop, use0, use1, use2, split, join, fsplit, fjoin, suffices, frame, done, rewrite}
 use types.Run.{look, store, init, forget, stop, from, load, lit, of-opd, bin, and-then, no-more, assigns, assigns-last, stays, leaves-loop, first, blocks, exec, again, Below, land, returns, enter, alloc1, alloc0, params1, pass1, pass0, free1, free0}
 use sound.Loop.{loop-rule}
 use sound.WpLaws.{FmC, fmOf}

@@ -1,0 +1,94 @@
+// Of one credential of a file, refusals 4 to 7.
+ghost use mathlib.Core.Path.{_≡_};
+ghost use Prim.Native.Nat.{_<_};
+ghost use lib.Dec.{ltb};
+ghost use lib.ListN.{length};
+ghost use Rattle.file.specs.Format.{byte, E, R, N};
+ghost use Rattle.file.specs.Reading.{inRange, zeros, credentialRows};
+ghost use Rattle.file.specs.Values.{usedBy, firstNumber, Headed, Stated};
+
+// The number of the first of refusals 4 to 7 that credential i has, or 0.
+pub fn fault(file: &[u8], h: file::Head, i: usize) -> u32
+    requires { ⌜ (Headed (now file) h) × (i < N (now file)) ⌝ }
+    ensures { λ r. ⌜ r ≡ firstNumber (credentialRows (now (file .entry)) i) ⌝ }
+{
+    if 5 < file[6 + 8 * i] {
+        return 4;
+    }
+    let e = h.entities;
+    let r = h.names;
+    if !in_range(file, i, e, r) {
+        return 5;
+    }
+    if !zeroed(file, i) {
+        return 6;
+    }
+    let v = file::read_period(file, h, i);
+    if v.until <= v.from {
+        return 7;
+    }
+    0
+}
+
+fn used_by(kind: u8) -> file::Used
+    ensures { λ r. ⌜ r ≡ usedBy kind ⌝ }
+{
+    match kind {
+        1 => file::Used {
+            s: true,
+            c: false,
+            t: false,
+        },
+        2 => file::Used {
+            s: true,
+            c: false,
+            t: true,
+        },
+        3..=5 => file::Used {
+            s: true,
+            c: true,
+            t: true,
+        },
+        _ => file::Used {
+            s: false,
+            c: false,
+            t: false,
+        },
+    }
+}
+
+fn below(file: &[u8], p: usize, limit: u32) -> bool
+    requires { ⌜ p < length (now file) ⌝ }
+    ensures { λ r. ⌜ r ≡ ltb (byte (now (file .entry)) p) limit ⌝ }
+{
+    widths::wide8(file[p]) < limit
+}
+
+// The entities and names that the kind uses are below e and r: A, r and b always, s, c and t where it uses them.
+fn in_range(file: &[u8], i: usize, e: u32, r: u32) -> bool
+    requires { ⌜ Stated (now file) i ⌝ ∗ ⌜ (e ≡ E (now file)) × (r ≡ R (now file)) ⌝ }
+    ensures { λ ok. ⌜ ok ≡ inRange (now (file .entry)) i ⌝ }
+{
+    let at = 6 + 8 * i;
+    let u = used_by(file[at]);
+    let entities = below(file, at + 1, e)
+        & below(file, at + 3, e)
+        & (!u.c | below(file, at + 5, e));
+    let names = below(file, at + 2, r)
+        & (!u.s | below(file, at + 4, r))
+        & (!u.t | below(file, at + 6, r));
+    entities & names
+}
+
+// The bytes that the kind does not use are zero, and byte 7 always is.
+fn zeroed(file: &[u8], i: usize) -> bool
+    requires { ⌜ Stated (now file) i ⌝ }
+    ensures { λ ok. ⌜ ok ≡ zeros (now (file .entry)) i ⌝ }
+{
+    let at = 6 + 8 * i;
+    let u = used_by(file[at]);
+    (u.s | (file[at + 4] == 0))
+        & (u.c | (file[at + 5] == 0))
+        & (u.t | (file[at + 6] == 0))
+        & (file[at + 7] == 0)
+}

@@ -1,0 +1,37 @@
+-- What the sentences are shown to name.
+use mathlib.Core.Path.{_≡_, refl}
+use mathlib.Core.Logic.{_⊎_}
+use mathlib.Core.List.{List}
+use Prim.Native.Nat.{ℕ}
+use native.Mathlib.Omega.{arith}
+use Rattle.file.specs.Conditions.{Refused, short, limits, wrongLength, kind, range, unused, period, tooManyEnds}
+use Rattle.file_sentences.specs.Named.{EntityNamed, NameNamed, ByteNamed}
+use Rattle.file_sentences.proofs.Naming as Naming
+
+by-5 : {f : List ℕ} {n i : ℕ} → Refused f n i → n ≡ 5 → EntityNamed f i ⊎ NameNamed f i
+by-5 (short h) e = absurd (omega arith)
+by-5 (limits h k) e = absurd (omega arith)
+by-5 (wrongLength h k l) e = absurd (omega arith)
+by-5 (kind i r h) e = absurd (omega arith)
+by-5 {f} (range i r h k) e = Naming.range-named f i h k
+by-5 (unused i r h k l) e = absurd (omega arith)
+by-5 (period i r h k l m) e = absurd (omega arith)
+by-5 (tooManyEnds h k l) e = absurd (omega arith)
+
+by-6 : {f : List ℕ} {n i : ℕ} → Refused f n i → n ≡ 6 → ByteNamed f i
+by-6 (short h) e = absurd (omega arith)
+by-6 (limits h k) e = absurd (omega arith)
+by-6 (wrongLength h k l) e = absurd (omega arith)
+by-6 (kind i r h) e = absurd (omega arith)
+by-6 (range i r h k) e = absurd (omega arith)
+by-6 {f} (unused i r h k l) e = Naming.byte-named f i l
+by-6 (period i r h k l m) e = absurd (omega arith)
+by-6 (tooManyEnds h k l) e = absurd (omega arith)
+
+-- A file that is refused by 5 has the entity that the sentence names at fault, or, where all entities are in range, the name.
+pub range-named : (f : List ℕ) (i : ℕ) → Refused f 5 i → EntityNamed f i ⊎ NameNamed f i
+range-named f i r = by-5 r refl
+
+-- A file that is refused by 6 has the byte that the sentence names at fault.
+pub byte-named : (f : List ℕ) (i : ℕ) → Refused f 6 i → ByteNamed f i
+byte-named f i r = by-6 r refl

@@ -1,0 +1,5 @@
+mod Wording
+mod Strays
+mod Ranges
+mod Naming
+pub mod Claims

@@ -1,0 +1,3 @@
+pub mod FileSentences
+pub mod Named
+pub mod FileWords

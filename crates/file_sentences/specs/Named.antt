@@ -1,0 +1,35 @@
+-- What a sentence names is at fault: of refusals 5 and 6, which look for the first of several bytes.
+use mathlib.Core.Path.{_≡_}
+use mathlib.Core.List.{List, List·Memᴰ as Mem}
+use Prim.Native.Nat.{ℕ, _≤_, _<_}
+use Rattle.text.specs.Ascii.{ascii}
+use Rattle.text.specs.Lines.{decimal}
+use Rattle.file.specs.Format.{E, R, field}
+use Rattle.file.specs.Reading.{uses}
+use Rattle.sentences.specs.Words.{_then_, noEntity, noName}
+use Rattle.file_sentences.specs.FileSentences.{rangeText, unusedText}
+
+-- 5: a used entity that is not below E
+pub record EntityNamed (f : List ℕ) (i : ℕ) : Type 0 where
+  pub at : ℕ
+  pub used : Mem at (uses (field f i 0) .entities)
+  pub large : E f ≤ field f i at
+  pub says : rangeText f i ≡ ascii "entity " then noEntity f (field f i at)
+
+-- 5: a used name that is not below R, where all used entities are below E
+pub record NameNamed (f : List ℕ) (i : ℕ) : Type 0 where
+  pub entities : (j : ℕ) → Mem j (uses (field f i 0) .entities) → field f i j < E f
+  pub at : ℕ
+  pub used : Mem at (uses (field f i 0) .names)
+  pub large : R f ≤ field f i at
+  pub says : rangeText f i ≡ ascii "role name " then noName f (field f i at)
+
+-- 6: an unused byte that is not zero
+pub record ByteNamed (f : List ℕ) (i : ℕ) : Type 0 where
+  pub at : ℕ
+  pub unused : Mem at (uses (field f i 0) .unused)
+  pub nonzero : ¬ (field f i at ≡ 0)
+  pub says :
+      unusedText f i
+      ≡ ascii "byte " then decimal at then ascii " is " then decimal (field f i at) then ascii ", kind " then decimal (field f i 0)
+      then ascii " has 0 there"

@@ -1,0 +1,4 @@
+pub mod Falling
+pub mod Premises
+pub mod Families
+pub mod Giving

@@ -1,0 +1,4 @@
+mod Wording
+mod Onward
+mod Naming
+pub mod Claims

@@ -1,0 +1,3 @@
+pub mod RequestSentences
+pub mod Named
+pub mod RequestWords

@@ -1,0 +1,5 @@
+mod Lines
+mod Fitting
+mod Progress
+pub mod First
+pub mod Counting

@@ -1,0 +1,4 @@
+mod Listing
+mod Scanning
+mod SetReading
+pub mod Claims
