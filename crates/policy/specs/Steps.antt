@@ -1,16 +1,15 @@
 -- What the private functions do.
 use mathlib.Core.Path.{_≡_}
-use mathlib.Core.List.{List, _++_}
+use mathlib.Core.List.{List}
 use Prim.Native.Nat.{ℕ, _+_, _*_, _^_, _<_}
 use lib.Dec.{eqb}
 use lib.ListN.{getD, set}
 use Rattle.meaning.specs.Lists.{if}
 use Rattle.meaning.specs.Credentials.{_·_}
-use Rattle.file.specs.declared.Head.{Head}
 use Rattle.file.specs.declared.Refusal.{Refusal}
 use Rattle.file.specs.Format.{N, byte, field, fromOf, toOf}
-use Rattle.file.specs.Reading.{headRows, credentialRows, credentialsRows}
-use Rattle.file.specs.Values.{firstNumber, firstRefusal, Headed}
+use Rattle.file.specs.Reading.{credentialRows, credentialsRows}
+use Rattle.file.specs.Values.{firstNumber, firstRefusal}
 
 -- a body as a number, of b, s, c, t
 abbrev pub bodyNumber : ℕ → ℕ → ℕ → ℕ → ℕ → ℕ
@@ -50,8 +49,7 @@ pub record OneDecoded (f : List ℕ) (i : ℕ) (p p′ : List ℕ) (r : ℕ) : T
   pub stored : r ≡ 0 → Worded f p′ i
   pub kept : (j : ℕ) → j < i → Worded f p j → Worded f p′ j
 
--- r is the first refusal, or h has the sizes and all credentials were stored
-pub record AllDecoded (f p : List ℕ) (h : Head) (r : Refusal) : Type 0 where
-  pub refusal : r ≡ firstRefusal (headRows f ++ credentialsRows f)
-  pub headed : r .number ≡ 0 → Headed f h
+-- r is the first refusal, or all credentials were stored
+pub record AllDecoded (f p : List ℕ) (r : Refusal) : Type 0 where
+  pub refusal : r ≡ firstRefusal (credentialsRows f)
   pub each : r .number ≡ 0 → (i : ℕ) → i < N f → Worded f p i

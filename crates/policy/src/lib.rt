@@ -4,7 +4,7 @@ ghost use Prim.Native.Nat.{_+_, _<_, _≤_};
 ghost use lib.ListN.{length};
 ghost use Rattle.meaning.specs.Credentials.{_·_, covers};
 ghost use Rattle.file.specs.Format.{N, byte, statementAt, field};
-ghost use Rattle.file.specs.Values.{headIn, Headed};
+ghost use Rattle.file.specs.Values.{Headed};
 ghost use Rattle.policy.specs.Policy.{credentialOf, statementIn, periodIn, Decodes};
 ghost use Rattle.policy.specs.Steps.{bodyAt, wordIn, periodNumber, stored, OneDecoded, AllDecoded};
 use file::Entity;
@@ -13,7 +13,7 @@ use file::Period;
 use file::Refusal;
 use file::RoleName;
 
-// Number and place of the refusal, both 0 where there is none; then the sizes are those of the file.
+// Number and place of the refusal, or 0, 0 and the sizes of a file that passes 1 to 7.
 pub struct Sizes {
     pub number: u32,
     pub place: u32,
@@ -44,10 +44,16 @@ pub fn decode(policy: &mut [u64; 512], file: &[u8]) -> Sizes
     ensures { λ r. ⌜ Decodes (now (file .entry)) (now (policy .exit)) r ⌝ }
 {
     let h = file::read_head(file);
+    if h.number != 0 {
+        return refused(h.number, 0);
+    }
     let j = decode_all(policy, file, h);
+    if j.number != 0 {
+        return refused(j.number, j.place);
+    }
     Sizes {
-        number: j.number,
-        place: j.place,
+        number: 0,
+        place: 0,
         entities: h.entities,
         names: h.names,
         credentials: h.credentials,
@@ -91,6 +97,19 @@ pub fn valid_at(policy: &[u64; 512], i: usize, minute: u32) -> bool
     (v.from <= minute) & (minute < v.until)
 }
 
+// A refusal, and no sizes.
+fn refused(number: u32, place: u32) -> Sizes
+    ensures { λ r. ⌜ r ≡ record { number = number; place = place; entities = 0; names = 0; credentials = 0 } ⌝ }
+{
+    Sizes {
+        number,
+        place,
+        entities: 0,
+        names: 0,
+        credentials: 0,
+    }
+}
+
 // The role of two bytes as a number.
 fn role_at(file: &[u8], p: usize) -> u64
     requires { ⌜ p + 2 ≤ length (now file) ⌝ }
@@ -122,13 +141,20 @@ fn word_at(file: &[u8], i: usize) -> u64
     kind * 4398046511104 + head * 4294967296 + body
 }
 
-// Puts a statement and a period, as numbers, into the list, lent as a slice, whose length is known.
-fn put(policy: &mut [u64], i: usize, statement: u64, v: Period)
+// A period as a number.
+fn period_word(v: Period) -> u64
+    ensures { λ r. ⌜ (r ≡ periodNumber (v .from) (v .until)) × (v .until < 4294967296) ⌝ }
+{
+    v.from as u64 * 4294967296 + v.until as u64
+}
+
+// Puts the numbers of credential i into the list, lent as a slice, whose length is known.
+fn put(policy: &mut [u64], i: usize, statement: u64, period: u64)
     requires { ⌜ (length (now policy) ≡ 512) × (i < 256) ⌝ }
-    ensures { λ _. ⌜ (now (policy .exit) ≡ stored (now (policy .entry)) i statement (periodNumber (v .from) (v .until))) × (v .until < 4294967296) ⌝ }
+    ensures { λ _. ⌜ now (policy .exit) ≡ stored (now (policy .entry)) i statement period ⌝ }
 {
     policy[2 * i] = statement;
-    policy[2 * i + 1] = v.from as u64 * 4294967296 + v.until as u64;
+    policy[2 * i + 1] = period;
 }
 
 // Stores credential i and returns 0, or returns the number of the first of refusals 4 to 7 that it has.
@@ -141,22 +167,16 @@ fn decode_one(policy: &mut [u64; 512], file: &[u8], h: Head, i: usize) -> u32
         return number;
     }
     let statement = word_at(file, i);
-    let v = file::read_period(file, h, i);
-    put(policy, i, statement, v);
+    let period = period_word(file::read_period(file, h, i));
+    put(policy, i, statement, period);
     0
 }
 
-// Stores all credentials, in file order, up to the first that is refused; none where the sizes are.
+// Stores all credentials, in file order, up to the first that is refused.
 fn decode_all(policy: &mut [u64; 512], file: &[u8], h: Head) -> Refusal
-    requires { ⌜ h ≡ headIn (now file) ⌝ }
-    ensures { λ r. ⌜ AllDecoded (now (file .entry)) (now (policy .exit)) h r ⌝ }
+    requires { ⌜ Headed (now file) h ⌝ }
+    ensures { λ r. ⌜ AllDecoded (now (file .entry)) (now (policy .exit)) r ⌝ }
 {
-    if h.number != 0 {
-        return Refusal {
-            number: h.number,
-            place: 0,
-        };
-    }
     let n = h.credentials;
     let mut i = 0;
     while i < n {

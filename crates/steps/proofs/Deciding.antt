@@ -75,13 +75,14 @@ breaks b before s r e u =
     record { holds = h ∙ sym e; role = λ t. unheld h t; level = λ t. unheld h t; low = omega arith }
 
 -- a step that cites nothing
-pub none-cited : (b : Statement) (before : List Shown) (s : M.Step) → b .kind ≡ 0
-    → Decides b before s (record { holds = eqb (s .first) 0 && eqb (s .second) 0 && eqb (s .set) (b .set); role = b .head; level = 1 })
-none-cited b before s k =
+pub none-cited : (b : Statement) (before : List Shown) (s : M.Step) (r : Judged) → b .kind ≡ 0
+    → r ≡ record { holds = eqb (s .first) 0 && eqb (s .second) 0 && eqb (s .set) (b .set); role = b .head; level = 1 } → Decides b before s r
+none-cited b before s r k u =
+    let v : r .level ≡ 1 = ap (λ (x : Judged). x .level) u in
     record {
-      holds = ap (λ (e : Body). keptBy e before s) (of-kind b k);
-      role = λ _. refl;
-      level = λ _. ap (λ (e : Body). suc (max (firstOf e before s .level) (secondOf e before s .level))) (of-kind b k);
+      holds = ap (λ (x : Judged). x .holds) u ∙ ap (λ (e : Body). keptBy e before s) (of-kind b k);
+      role = λ _. ap (λ (x : Judged). x .role) u;
+      level = λ _. v ∙ ap (λ (e : Body). suc (max (firstOf e before s .level) (secondOf e before s .level))) (of-kind b k);
       low = omega arith;
     }
 

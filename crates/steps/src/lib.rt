@@ -111,6 +111,17 @@ fn joined(b: Statement, p: Cited, q: Cited, set: u32) -> bool
     }
 }
 
+// A step of kind 0 cites nothing.
+fn by_none(b: Statement, s: Step) -> Judged
+    ensures { λ r. ⌜ r ≡ record { holds = eqb (s .first) 0 && eqb (s .second) 0 && eqb (s .set) (b .set); role = b .head; level = 1 } ⌝ }
+{
+    Judged {
+        holds: (s.first == 0) & (s.second == 0) & (s.set == b.set),
+        role: b.head,
+        level: 1,
+    }
+}
+
 // A step of kind 1 cites one earlier step.
 fn by_one(
     b: Statement,
@@ -164,7 +175,7 @@ fn by_two(
     }
 }
 
-// A step by its statement, whose credential is valid. One of kind 0 cites nothing.
+// A step by its statement, whose credential is valid.
 fn judge_by(
     b: Statement,
     i: usize,
@@ -178,11 +189,7 @@ fn judge_by(
 {
     let kind = b.kind;
     match kind {
-        0 => Judged {
-            holds: (s.first == 0) & (s.second == 0) & (s.set == b.set),
-            role: b.head,
-            level: 1,
-        },
+        0 => by_none(b, s),
         1 => by_one(b, i, s, roles, sets, levels),
         _ => by_two(b, i, s, roles, sets, levels),
     }

@@ -1,5 +1,5 @@
 -- `decode_one` meets its contract.
-use mathlib.Core.Path.{refl, sym, ap, _∙_}
+use mathlib.Core.Path.{sym, ap, _∙_}
 use native.Mathlib.Omega.{arith}
 use Rattle.file.specs.declared.Period.{Period}
 use Rattle.policy.proofs.Bytes.{small}
@@ -22,19 +22,24 @@ word-at-requires c κs =
 read-period-requires : tie.Need-read-period-requires
 read-period-requires c κs = search needs
 
+period-word-requires : tie.Need-period-word-requires
+period-word-requires c κs = search needs
+
 put-requires : tie.Need-put-requires
 put-requires c κs = search needs
 
 returns-2 : tie.Need-returns-2
 returns-2 c =
-    let test = c .before .before .before .before in
-    let s = test .before .before .before in
-    let v = c .before .before .read-period .ensures in
+    let s = c .before .before .before .before .before .before .before .before in
+    let f = s .args .file .now in
+    let v = c .before .before .before .read-period .ensures in
+    let w = c .before .before .period-word .ensures in
     let a = ap (λ (x : Period). x .from) v in
     let b = ap (λ (x : Period). x .until) v in
-    rw (c .put .ensures .0)
-    (one-decoded (s .args .file .now) (s .args .policy .now) (s .args .i) _ _ (c .before .put-arg .given .0 .1) (omega arith)
-    (sym (test .before .fault .ensures) ∙ test .if1 .left) (c .before .before .before .word-at .ensures) (rw (← a, ← b) refl) (rw (← b) (c .put .ensures .1)))
+    rw (c .put .ensures)
+    (one-decoded f (s .args .policy .now) (s .args .i) _ _ (c .before .put-arg .given .0 .1) (omega arith)
+    (sym (c .before .before .before .before .before .before .fault .ensures) ∙ c .before .before .before .before .before .if1 .left)
+    (c .before .before .before .before .word-at .ensures) (rw (← a, ← b) (w .0)) (rw (← b) (w .1)))
 
 pub decode-one-spec : {M : Type 1} → statement M
 decode-one-spec =
@@ -44,5 +49,6 @@ decode-one-spec =
     returns
     word-at-requires
     read-period-requires
+    period-word-requires
     put-requires
     returns-2)

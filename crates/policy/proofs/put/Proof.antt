@@ -14,26 +14,14 @@ mul-policy-2 c = search needs
 slice-write-policy : tie.Need-slice-write-policy
 slice-write-policy c = search needs
 
-cast-policy : tie.Need-cast-policy
-cast-policy c = search needs
-
 mul-policy-3 : tie.Need-mul-policy-3
 mul-policy-3 c = search needs
-
-cast-policy-2 : tie.Need-cast-policy-2
-cast-policy-2 c = search needs
 
 add-policy : tie.Need-add-policy
 add-policy c = search needs
 
 mul-policy-4 : tie.Need-mul-policy-4
 mul-policy-4 c = search needs
-
-add-policy-2 : tie.Need-add-policy-2
-add-policy-2 c = search needs
-
-mul-policy-5 : tie.Need-mul-policy-5
-mul-policy-5 c = search needs
 
 slice-write-policy-2 : tie.Need-slice-write-policy-2
 slice-write-policy-2 c = simp length-set (omega arith)
@@ -51,13 +39,9 @@ put-spec =
     mul-policy
     mul-policy-2
     slice-write-policy
-    cast-policy
     mul-policy-3
-    cast-policy-2
     add-policy
     mul-policy-4
-    add-policy-2
-    mul-policy-5
     slice-write-policy-2
     same-length
     returns)
