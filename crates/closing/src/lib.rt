@@ -130,6 +130,12 @@ fn give_new(
     if spans[e] == done[e] {
         return p;
     }
+    // Made anew, so that only an entry that gives has its visit stored.
+    let w = Visit {
+        limit: v.limit,
+        e,
+        last: v.last,
+    };
     let r = giving::give(
         keys,
         spans,
@@ -141,7 +147,7 @@ fn give_new(
         valid,
         lists,
         p.entries,
-        v,
+        w,
     );
     Progress {
         entries: r,

@@ -5,7 +5,7 @@ use Prim.Native.Nat.{ℕ, zero, suc, _+_, _*_, _/_, _%_, _^_, _<_, _≤_, zero-l
 use native.Mathlib.Nat.{mod-lt, div-one, div-eq-of-lt, zero-div, zero-mod, pow-suc, lt-of-not-le, le-of-suc-le-suc, not-suc-le-zero, eq-or-lt-of-le}
 use native.Mathlib.Omega.{arith}
 use lib.Arith.{bin-ind, digits-div, digits-mod}
-use lib.Bits.{bitAnd, bitOr, and-step, or-step, and-shr, or-shr, and-mask}
+use lib.Bits.{bitAnd, bitOr, and-step, or-step, and-shr, or-shr}
 use lib.Count.{ones, ones-step, ones-cat, trailingZeros, under}
 use lib.Dec.{T, eqb, eqb→eq}
 use lib.Pow.{shr-shr, pow-pos, pow-mono}
@@ -53,11 +53,6 @@ union-cases a b i e = go (eq-or-lt-of-le (le-of-suc-le-suc (bit-below-two a i)))
     go : (bit a i ≡ 1) ⊎ (bit a i < 1) → (bit a i ≡ 1) ⊎ (bit b i ≡ 1)
     go (inl f) = inl f
     go (inr l) = inr (omega (arith, bit-or a b i))
-
--- `n >> i & 1`
-pub shift-bit : (n i : ℕ) → bitAnd (n / 2 ^ i) 1 ≡ bit n i
-unfolding bit
-shift-bit n i = and-mask (n / 2 ^ i) 1
 
 pub bit-of-zero : (i : ℕ) → bit 0 i ≡ 0
 unfolding bit

@@ -3,7 +3,7 @@ ghost use mathlib.Core.Path.{_≡_};
 ghost use mathlib.Core.Bool.{true, false};
 ghost use Prim.Native.Nat.{_<_};
 ghost use lib.ListN.{getD};
-ghost use Rattle.store.specs.Entries.{roleIn, Leading};
+ghost use Rattle.store.specs.Entries.{keyOf, roleIn, Leading};
 ghost use Rattle.premises.specs.Moves.{Codable, WithOne, Walking, Plans};
 use waiting::Offer;
 
@@ -45,15 +45,14 @@ pub fn plan(
         return single(x, d, 0);
     }
     if kind == 3 {
-        return with_one(keys, slots, links, done, store::key_of(partner, x), x, d);
+        return with_one(keys, slots, links, done, partner, x, x, d);
     }
     if kind != 2 {
         let start = start_at(links, t, role, partner);
         return walking(kind, x, d, start);
     }
     if 1024 <= rules::family_of(code) {
-        let key = store::key_of(partner, 1u64 << (role / 32));
-        return with_one(keys, slots, links, done, key, x, d);
+        return with_one(keys, slots, links, done, partner, 1u64 << (role / 32), x, d);
     }
     let set = x as u32;
     if u32::count_ones(set) != 1 {
@@ -64,24 +63,24 @@ pub fn plan(
     walking(2, x, d, start)
 }
 
-// The set x in those spans of d in which the entry with a key is done, if there is one. A role without entries needs no search.
+// The set x in those spans of d in which the entry with the role and the set y is done, if there is one. A role without entries needs no search.
 fn with_one(
     keys: &[u64; 1024],
     slots: &[u16; 3072],
     links: &[u16; 2048],
     done: &[u64; 1024],
-    key: u64,
+    role: usize,
+    y: u64,
     x: u64,
     d: u64,
 ) -> Move
-    requires { ⌜ Leading (now slots) ⌝ ∗ ⌜ roleIn key < 1024 ⌝ }
-    ensures { λ r. ⌜ WithOne (now (keys .entry)) (now (slots .entry)) (now (links .entry)) (now (done .entry)) key x d r ⌝ }
+    requires { ⌜ Leading (now slots) ⌝ ∗ ⌜ (role < 1024) × (y < 4294967296) ⌝ }
+    ensures { λ r. ⌜ WithOne (now (keys .entry)) (now (slots .entry)) (now (links .entry)) (now (done .entry)) (keyOf role y) x d r ⌝ }
 {
-    let role = store::role_of(key);
     if store::latest(links, role) == 0 {
         return single(x, 0, 0);
     }
-    let c = store::entry_of(keys, slots, key);
+    let c = store::entry_of(keys, slots, store::key_of(role, y));
     if c == 0 {
         return single(x, 0, 0);
     }

@@ -105,21 +105,18 @@ returns c = let o = c .before .before in
     subst⁻¹ (Here o) (c .single .ensures ∙ ap (λ (x : ℕ). singleOf x (a .d) 0) (set-is o))
     (λ n st fi. planned-one (a .t) (a .code) (a .d) st fi k (λ P. gets-one (s .pre .1 .1) (small o) P k) (λ P X. by-one k))
 
-key-of-requires : tie.Need-key-of-requires
-key-of-requires c κs = let o = c .before .before in (o .other-of .ensures .1, omega (arith, o .before .before .before .before .set-of .ensures .1))
-
 with-one-requires : tie.Need-with-one-requires
-with-one-requires c κs = let o = c .before .before .before in
-    (first o .pre .0, omega (arith, c .key-of .ensures, o .other-of .ensures .1, o .before .before .before .before .set-of .ensures .1))
+with-one-requires c κs = let o = c .before .before in
+    (first o .pre .0, (o .other-of .ensures .1, omega (arith, o .before .before .before .before .set-of .ensures .1)))
 
 returns-2 : tie.Need-returns-2
-returns-2 c = let o = c .before .before .before .before in
+returns-2 c = let o = c .before .before .before in
     let s = first o in
     let a = s .args in
-    let k = sym (kind-is o) ∙ c .before .before .if2 .taken in
+    let k = sym (kind-is o) ∙ c .before .if2 .taken in
     λ n st fi. planned-with (a .t) (a .code) (a .d) st fi (otherIn (a .code)) (setIn (key o)) (omega arith, set-below (key o)) (λ f. omega arith)
     (λ P. gets-same (s .pre .1 .1) (small o) P k) (λ P X. by-three k)
-    (single-same (c .before .key-of .ensures ∙ ap (λ (x : ℕ). keyOf x (o .before .before .before .before .set-of .result)) (partner-is o) ∙ ap (λ (x : ℕ). keyOf (otherIn (a .code)) x) (set-is o)) (set-is o) (c .with-one .ensures n st))
+    (single-same (ap (λ (x : ℕ). keyOf x (o .before .before .before .before .set-of .result)) (partner-is o) ∙ ap (λ (x : ℕ). keyOf (otherIn (a .code)) x) (set-is o)) (set-is o) (c .with-one .ensures n st))
 
 start-at-requires : tie.Need-start-at-requires
 start-at-requires c κs = let o = c .before .before .before in (o .other-of .ensures .1, first o .pre .1 .0 .0)
@@ -140,26 +137,22 @@ returns-3 c = let o = c .before .before .before .before .before in
 family-of-requires : tie.Need-family-of-requires
 family-of-requires c κs = tt
 
-shl-key-of : tie.Need-shl-key-of
-shl-key-of c = let o = link (c .before) in omega (arith, role-is o, small o)
-
-key-of-requires-2 : tie.Need-key-of-requires-2
-key-of-requires-2 c κs = let o = link (c .before) in (o .other-of .ensures .1, omega (arith, shift o, shift-low o))
+shl-with-one : tie.Need-shl-with-one
+shl-with-one c = let o = link (c .before) in omega (arith, role-is o, small o)
 
 with-one-requires-2 : tie.Need-with-one-requires-2
-with-one-requires-2 c κs = let o = link (c .before .before) in
-    (first o .pre .0, omega (arith, c .key-of2 .ensures, shift o, shift-low o, o .other-of .ensures .1))
+with-one-requires-2 c κs = let o = link (c .before) in (first o .pre .0, (o .other-of .ensures .1, omega (arith, shift o, shift-low o)))
 
 returns-4 : tie.Need-returns-4
-returns-4 c = let f = c .before .before .before in
+returns-4 c = let f = c .before .before in
     let o = link f in
     let s = first o in
     let a = s .args in
     let k = two f in
-    let l : 1024 ≤ familyIn (a .code) = omega (arith, c .before .before .if4 .taken, f .family-of .ensures) in
+    let l : 1024 ≤ familyIn (a .code) = omega (arith, c .before .if4 .taken, f .family-of .ensures) in
     λ n st fi. planned-with (a .t) (a .code) (a .d) st fi (otherIn (a .code)) (2 ^ (roleIn (key o) / 32)) (omega arith, shift-low o) (λ f. omega arith)
     (λ P. gets-name (s .pre .1 .1) (small o) P k l) (λ P X. by-second k l (small o))
-    (single-same (c .before .key-of2 .ensures ∙ ap (λ (x : ℕ). keyOf x (1 * 2 ^ (o .before .before .role-of .result / 32) % 2 ^ 64)) (partner-is o) ∙ ap (λ (x : ℕ). keyOf (otherIn (a .code)) x) (shift o)) (set-is o) (c .with-one2 .ensures n st))
+    (single-same (ap (λ (x : ℕ). keyOf x (1 * 2 ^ (o .before .before .role-of .result / 32) % 2 ^ 64)) (partner-is o) ∙ ap (λ (x : ℕ). keyOf (otherIn (a .code)) x) (shift o)) (set-is o) (c .with-one2 .ensures n st))
 
 cast-set : tie.Need-cast-set
 cast-set c = record { fits = link (c .before) .before .before .before .before .set-of .ensures .1 }
@@ -215,15 +208,13 @@ plan-spec =
     other-of-requires
     single-requires
     returns
-    key-of-requires
     with-one-requires
     returns-2
     start-at-requires
     walking-requires
     returns-3
     family-of-requires
-    shl-key-of
-    key-of-requires-2
+    shl-with-one
     with-one-requires-2
     returns-4
     cast-set
