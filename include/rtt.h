@@ -111,8 +111,8 @@ extern "C" {
 
 /* The version of this interface; the pkg-config file and the manual pages take it from here. The number is
    major * 10,000 + minor * 100 + patch. */
-#define RTT_VERSION "1.1.1"
-#define RTT_VERSION_NUMBER 10101
+#define RTT_VERSION "1.1.2"
+#define RTT_VERSION_NUMBER 10102
 
 /* Bytes of stack that are enough for any call, beside what the caller itself uses. Measured, no call takes more than
 
