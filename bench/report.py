@@ -269,7 +269,7 @@ def tables(out):
     text.append(rows(['call', 'file', 'function', 'instructions'],
                      [[*key.split(), f'`{f}`' if '_' in f or ':' in f else f, number(x)] for key, parts in out['parts'].items()
                       for f, x in sorted(parts.items(), key=lambda p: -p[1]) if 50 * x > sum(parts.values())]))
-    part('Times', 'Least of repeated calls in one run. A blank cell: there is no proof to check.')
+    part('Times', 'Least of repeated calls in one run; of short ones the least mean of 20 or 200 calls. A blank cell: there is no proof to check.')
     text.append(rows(
         ['file', 'complete', 'plain', 'grouped', 'query', 'plain', 'grouped', 'absent', 'check', 'plain'],
         [[n, *[time(r['time'].get(f'complete {w}')) for w in ('rtt', 'plain', 'grouped')],
