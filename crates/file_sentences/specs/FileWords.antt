@@ -17,8 +17,7 @@ fileWords = linesOf (
     ∷ "credential #: entity #, the file has # {entity|entities}"
     ∷ "credential #: role name #, the file has # {role name|role names}"
     ∷ "credential #: byte # is #, kind # has 0 there"
-    ∷ "credential #: from # is above to #"
-    ∷ "credential #: to #, the last minute is 4294967294"
+    ∷ "credential #: from # is not below to #"
     ∷ "the periods have more than 64 ends"
     ∷ "more than 1024 memberships"
     ∷ [])
