@@ -1,0 +1,3 @@
+pub mod OldFormat
+pub mod OldReading
+pub mod Samples
