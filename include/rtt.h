@@ -26,7 +26,7 @@
 
    A proof step is four words, at the same place of four lists:
 
-     credential  the position of the credential that it uses, counted from 0 in the file; not its serial
+     credential  the position of the credential that it uses, counted from 0 in the file
      first       the first step that it cites, counted from 0 in the proof; 0 where none is cited
      second      the second step that it cites, likewise
      sets        the resulting set: the step shows that the credential's role A.r has this set
@@ -38,10 +38,9 @@
 
    Ends and spans
 
-   A period of the file covers minute m when from <= m and m <= to. The ends of a file are the distinct from values and
-   to values plus one of its periods, ascending; end 0 is the lowest. Span i runs from end i up to, not including, end
-   i + 1. So n ends make n - 1 spans, and no ends make none. rtt_ends writes the ends, rtt_intervals turns spans into
-   minutes.
+   The ends of a file are the distinct from and to values of its periods, ascending; end 0 is the lowest. Span i runs
+   from end i up to, not including, end i + 1. So n ends make n - 1 spans, and no ends make none. rtt_ends writes the
+   ends, rtt_intervals turns spans into minutes.
 
    Replies
 
@@ -60,18 +59,17 @@
          refuse, and say rtt_refusal_text(rtt_number(reply));
 
    The first condition that holds, from top to bottom, is the refusal; credentials are tested in file order, each
-   through 4 to 7 and 17. Places count from 0. enum rtt_refusal has a name for each number.
+   through 4 to 7. Places count from 0. enum rtt_refusal has a name for each number.
 
      number  condition                                             place       given by
         1    the file has under 6 bytes                            0           all
         2    E or R outside 1 to 32, or N above 256                0           all
-        3    the file's length is not 6 + 20 * N                   0           all
+        3    the file's length is not 6 + 16 * N                   0           all
         4    a credential's kind is above 5                        credential  all
         5    its issuer or a used entity is not below E, or        credential  all
              its name or a used name is not below R
         6    an unused byte or byte 7 is not zero                  credential  all
-        7    from is above to, or to is 4,294,967,295              credential  all
-       17    its serial is zero or that of an earlier credential   credential  all
+        7    from is not below to                                  credential  all
         8    the periods have over 64 ends                         0           all
         9    a list is not whole entries, the lists are not of     0           complete, query, check
              one length, or L is outside 1 to 1,024
@@ -113,8 +111,8 @@ extern "C" {
 
 /* The version of this interface; the pkg-config file and the manual pages take it from here. The number is
    major * 10,000 + minor * 100 + patch. */
-#define RTT_VERSION "3.0.0"
-#define RTT_VERSION_NUMBER 30000
+#define RTT_VERSION "1.1.2"
+#define RTT_VERSION_NUMBER 10102
 
 /* Bytes of stack that are enough for any call, beside what the caller itself uses. Measured, no call takes more than
 
@@ -149,7 +147,7 @@ enum rtt_refusal {
     RTT_UNKNOWN_KIND = 4,
     RTT_CREDENTIAL_OUT_OF_RANGE = 5,
     RTT_BYTE_NOT_ZERO = 6,
-    RTT_WRONG_PERIOD = 7,
+    RTT_EMPTY_PERIOD = 7,
     RTT_TOO_MANY_ENDS = 8,
     RTT_WRONG_LISTS = 9,
     RTT_TOO_MANY_MEMBERSHIPS = 10,
@@ -158,8 +156,7 @@ enum rtt_refusal {
     RTT_NO_PROOF = 13,
     RTT_WRONG_STEP_COUNT = 14,
     RTT_WRONG_STEP = 15,
-    RTT_OTHER_MEMBERSHIP = 16,
-    RTT_WRONG_SERIAL = 17
+    RTT_OTHER_MEMBERSHIP = 16
 };
 
 /* Completes the table of the file: every membership that is valid at one minute or more, with all spans in which it is.
@@ -170,7 +167,7 @@ enum rtt_refusal {
    spans   8 bytes an entry, written; bit i stands for span i
 
    Returns the count of memberships. Entry i of the lists is the i-th membership, ascending by role, then by set; every
-   entry after the last is zero. Refuses with 1 to 10 and 17.  */
+   entry after the last is zero. Refuses with 1 to 10.  */
 RTT_MUST_USE
 uint64_t rtt_complete(const uint8_t *file, size_t file_length,
                       uint8_t *roles, size_t roles_length,
@@ -185,7 +182,7 @@ uint64_t rtt_complete(const uint8_t *file, size_t file_length,
 
    Returns steps + level * 65,536 (rtt_steps, rtt_level). Entry i is step i; the last step shows the queried membership;
    no membership is shown twice, and every step is one that the last rests on; every entry after the last is zero.
-   Refuses with 1 to 9, 11, 12, 10, 13 and 17.  */
+   Refuses with 1 to 9, 11, 12, 10 and 13.  */
 RTT_MUST_USE
 uint64_t rtt_query(const uint8_t *file, size_t file_length,
                    uint32_t role, uint32_t set, uint32_t minute,
@@ -203,7 +200,7 @@ uint64_t rtt_query(const uint8_t *file, size_t file_length,
    steps                             how many steps the proof has, 1 to L; further entries may hold anything
 
    Returns the proof's level as it is, without steps: rtt_level is not for this reply. Refuses with 1 to 9, 11, 12 and 14
-   to 17.  */
+   to 16.  */
 RTT_MUST_USE
 uint64_t rtt_check(const uint8_t *file, size_t file_length,
                    uint32_t role, uint32_t set, uint32_t minute,
@@ -219,7 +216,7 @@ uint64_t rtt_check(const uint8_t *file, size_t file_length,
    ends   RTT_ENDS_BYTES bytes, 4 an entry, written
 
    Returns the count of ends, at most 64. Entry i is end i, ascending; every entry after the last is zero. Refuses with
-   1 to 9 and 17.  */
+   1 to 9.  */
 RTT_MUST_USE
 uint64_t rtt_ends(const uint8_t *file, size_t file_length,
                   uint8_t *ends, size_t ends_length);
@@ -229,10 +226,10 @@ uint64_t rtt_ends(const uint8_t *file, size_t file_length,
    file     the bytes of a credentials file, read
    spans    bit i stands for span i, as in the list that rtt_complete writes
    bounds   RTT_BOUNDS_BYTES bytes, 4 an entry, written: entries 2 * i and 2 * i + 1 are from and to of interval i,
-            which covers minute m when from <= m and m < to: unlike a period of the file, it does not cover `to`
+            which covers minute m when from <= m and m < to
 
    Returns the count of intervals, at most 32. They ascend and never touch, since spans that touch are joined; every
-   entry after the last interval is zero. Refuses with 1 to 9, 11 and 17.  */
+   entry after the last interval is zero. Refuses with 1 to 9 and 11.  */
 RTT_MUST_USE
 uint64_t rtt_intervals(const uint8_t *file, size_t file_length,
                        uint64_t spans,
@@ -247,7 +244,7 @@ RTT_MUST_USE static inline uint32_t rtt_place(uint64_t reply) { return rtt_ok(re
 RTT_MUST_USE static inline uint32_t rtt_steps(uint64_t reply) { return rtt_ok(reply) ? (uint32_t)reply & 65535 : 0; }
 RTT_MUST_USE static inline uint32_t rtt_level(uint64_t reply) { return rtt_ok(reply) ? (uint32_t)reply >> 16 : 0; }
 
-/* A refusal's number, which is rtt_number(reply), in words: a constant string. 0 is "no refusal"; any number above 17,
+/* A refusal's number, which is rtt_number(reply), in words: a constant string. 0 is "no refusal"; any number above 16,
    such as the whole reply of a refusal, is "not the number of a refusal". */
 static inline const char *rtt_refusal_text(uint64_t number)
 {
@@ -259,7 +256,7 @@ static inline const char *rtt_refusal_text(uint64_t number)
     case RTT_UNKNOWN_KIND: return "a credential's kind is above 5";
     case RTT_CREDENTIAL_OUT_OF_RANGE: return "a credential has an entity or a role name that is out of range";
     case RTT_BYTE_NOT_ZERO: return "a credential's unused byte is not zero";
-    case RTT_WRONG_PERIOD: return "a credential's period ends before it begins or after the last minute";
+    case RTT_EMPTY_PERIOD: return "a credential's period does not begin before it ends";
     case RTT_TOO_MANY_ENDS: return "the periods have over 64 ends";
     case RTT_WRONG_LISTS: return "a lent list has a wrong length";
     case RTT_TOO_MANY_MEMBERSHIPS: return "there are more memberships than the lists have entries";
@@ -269,7 +266,6 @@ static inline const char *rtt_refusal_text(uint64_t number)
     case RTT_WRONG_STEP_COUNT: return "the step count is 0 or more than the lists have entries";
     case RTT_WRONG_STEP: return "a step breaks the rules for a proof step";
     case RTT_OTHER_MEMBERSHIP: return "the last step is not the queried membership";
-    case RTT_WRONG_SERIAL: return "a credential's serial is zero or that of an earlier credential";
     default: return "not the number of a refusal";
     }
 }

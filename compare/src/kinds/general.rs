@@ -13,7 +13,7 @@ use crate::reference::MOST;
 
 pub fn small(c: &mut Comparison, random: &mut Random, count: usize) -> Compared<()> {
     for _ in 0..count {
-        let file = dense(random, &SMALL).numbered(random);
+        let file = dense(random, &SMALL).bytes();
         let known = c.known(&file);
         complete_all(c, random, &file, &known)?;
         query_some(c, random, &file, &known, 12, 4)?;
@@ -23,7 +23,7 @@ pub fn small(c: &mut Comparison, random: &mut Random, count: usize) -> Compared<
 
 pub fn joint_small(c: &mut Comparison, random: &mut Random, count: usize) -> Compared<()> {
     for _ in 0..count {
-        let file = dense(random, &SMALL).numbered(random);
+        let file = dense(random, &SMALL).bytes();
         let known = c.known(&file);
         let fits = known.table().map_or(0, |table| table.len());
         let length = random.choose(&[fits, fits + 1, MOST]).clamp(1, MOST);
@@ -34,30 +34,10 @@ pub fn joint_small(c: &mut Comparison, random: &mut Random, count: usize) -> Com
 
 pub fn periods(c: &mut Comparison, random: &mut Random, count: usize) -> Compared<()> {
     for _ in 0..count {
-        let file = timed(random).numbered(random);
+        let file = timed(random).bytes();
         let known = c.known(&file);
         complete_all(c, random, &file, &known)?;
         joint(c, random, &file, &known, 16)?;
-    }
-    Ok(())
-}
-
-/// Two periods whose from and to are 0, 1 or one of the last three numbers: some are accepted, among them from = to and `to` 4,294,967,294, and some refused.
-pub fn bounds(c: &mut Comparison, random: &mut Random, count: usize) -> Compared<()> {
-    let values = [0, 1, u32::MAX - 2, u32::MAX - 1, u32::MAX];
-    let all: Vec<Period> = values.into_iter().flat_map(|from| values.map(|to| (from, to))).collect();
-    for (one, other) in all.iter().flat_map(|&one| all.iter().map(move |&other| (one, other))).cycle().take(count * all.len() * all.len()) {
-        let mut draft = Draft::new(1, 2);
-        draft.fact(0, 0, one);
-        draft.include(1, 0, other);
-        let file = draft.bytes();
-        let known = c.known(&file);
-        if known.read.is_err() {
-            damaged_calls(c, random, &file, &known)?;
-            continue;
-        }
-        ends_and_intervals(c, random, &file, &known)?;
-        joint(c, random, &file, &known, 4)?;
     }
     Ok(())
 }
@@ -72,7 +52,7 @@ pub fn medium(c: &mut Comparison, random: &mut Random, count: usize) -> Compared
             let (entities, credentials) = (random.within(4, 12) as u32, random.within(20, 80));
             layered(random, entities, 8, credentials, &ends)
         };
-        let file = draft.numbered(random);
+        let file = draft.bytes();
         let known = c.known(&file);
         complete_all(c, random, &file, &known)?;
         query_some(c, random, &file, &known, 40, 2)?;
@@ -83,9 +63,9 @@ pub fn medium(c: &mut Comparison, random: &mut Random, count: usize) -> Compared
 pub fn many_ends(c: &mut Comparison, random: &mut Random, count: usize) -> Compared<()> {
     for i in 0..count {
         let ends = [63, 64, 65][i % 3];
-        let file = with_ends(random, ends).numbered(random);
+        let file = with_ends(random, ends).bytes();
         let known = c.known(&file);
-        assert!(known.read.as_ref().map_or(65, |file| file.ends.len()) == ends);
+        assert!(known.read.as_ref().map_or(65, |file| file.ends().len()) == ends);
         complete_all(c, random, &file, &known)?;
         query_some(c, random, &file, &known, 60, 1)?;
         if known.read.is_err() {
@@ -107,7 +87,7 @@ pub fn full(c: &mut Comparison, random: &mut Random, count: usize) -> Compared<(
                 layered(random, entities, 32, 256, &ends)
             }
         };
-        let file = draft.numbered(random);
+        let file = draft.bytes();
         let known = c.known(&file);
         complete_all(c, random, &file, &known)?;
         query_some(c, random, &file, &known, 60, 2)?;
@@ -125,7 +105,7 @@ pub fn deep(c: &mut Comparison, random: &mut Random, count: usize) -> Compared<(
                 ring(random, sets, 29)
             }
         };
-        let file = draft.numbered(random);
+        let file = draft.bytes();
         let known = c.known(&file);
         complete_all(c, random, &file, &known)?;
         let Members::Levels(levels) = &*known.members(0) else { continue };
@@ -152,7 +132,7 @@ pub fn limit(c: &mut Comparison, random: &mut Random, count: usize) -> Compared<
     for i in 0..count {
         let total = [1024, 1025, 1023][i % 3];
         let widest = if i < 6 { 10 } else { random.within(6, 9) };
-        let file = with_memberships(random, total, widest).numbered(random);
+        let file = with_memberships(random, total, widest).bytes();
         let known = c.known(&file);
         assert!(known.table().map_or(1025, |table| table.len()) == total);
         for length in [1022, 1023, 1024, 1025] {

@@ -1,7 +1,6 @@
-//! Document 01, "The credentials file", with document 02's requests One and Two: bytes to credentials, or the first of the refusals
-//! 1 to 8 and 17.
+//! Document 01, "The credentials file": bytes to credentials, or the first of the refusals 1 to 8.
 
-use super::{refuse, role, Refusal, Rules};
+use super::{refuse, role, Refusal};
 use std::collections::BTreeSet;
 
 #[derive(Clone, Copy, PartialEq, Eq, Debug)]
@@ -18,10 +17,8 @@ pub enum Body {
 
 #[derive(Clone, Copy, PartialEq, Eq, Debug)]
 pub struct Credential {
-    pub serial: u32,
     pub head: u32,
     pub body: Body,
-    /// As the file has them: both minutes are covered.
     pub from: u32,
     pub to: u32,
 }
@@ -31,11 +28,17 @@ pub struct File {
     pub entities: u32,
     pub names: u32,
     pub credentials: Vec<Credential>,
-    /// The distinct from values and `to` values plus one, ascending.
-    pub ends: Vec<u32>,
 }
 
-pub fn read(rules: &Rules, bytes: &[u8]) -> Result<File, Refusal> {
+impl File {
+    /// The distinct from and to values, ascending.
+    pub fn ends(&self) -> Vec<u32> {
+        let ends: BTreeSet<u32> = self.credentials.iter().flat_map(|c| [c.from, c.to]).collect();
+        ends.into_iter().collect()
+    }
+}
+
+pub fn read(bytes: &[u8]) -> Result<File, Refusal> {
     if bytes.len() < 6 {
         return refuse(1);
     }
@@ -44,27 +47,19 @@ pub fn read(rules: &Rules, bytes: &[u8]) -> Result<File, Refusal> {
     if entities < 1 || entities > 32 || names < 1 || names > 32 || count > 256 {
         return refuse(2);
     }
-    if bytes.len() != 6 + 20 * count {
+    if bytes.len() != 6 + 16 * count {
         return refuse(3);
     }
-    let mut file = File { entities: entities as u32, names: names as u32, credentials: Vec::new(), ends: Vec::new() };
-    let mut serials = Vec::new();
+    let mut file = File { entities: entities as u32, names: names as u32, credentials: Vec::new() };
     for place in 0..count {
-        let statement = &bytes[6 + 12 * place..][..12];
-        let period = &bytes[6 + 12 * count + 8 * place..][..8];
-        let refused = |number| Err(Refusal { number, place: place as u32 });
-        match credential(rules, statement, period, file.entities, file.names) {
-            Err(number) => return refused(number),
-            Ok(credential) if (rules.taken)(&serials, credential.serial) => return refused(17),
-            Ok(credential) => {
-                serials.push(credential.serial);
-                file.credentials.push(credential);
-            }
+        let statement = &bytes[6 + 8 * place..][..8];
+        let period = &bytes[6 + 8 * count + 8 * place..][..8];
+        match credential(statement, period, file.entities, file.names) {
+            Ok(credential) => file.credentials.push(credential),
+            Err(number) => return Err(Refusal { number, place: place as u32 }),
         }
     }
-    let ends: BTreeSet<u32> = file.credentials.iter().flat_map(|c| [c.from, (rules.end)(c.to)]).collect();
-    file.ends = ends.into_iter().collect();
-    if file.ends.len() > 64 {
+    if file.ends().len() > 64 {
         return refuse(8);
     }
     Ok(file)
@@ -80,8 +75,8 @@ pub fn uses(kind: u8) -> [bool; 4] {
     }
 }
 
-/// One credential, or the number of its first refusal of 4 to 7.
-fn credential(rules: &Rules, statement: &[u8], period: &[u8], entities: u32, names: u32) -> Result<Credential, u32> {
+/// One credential, or the number of its first refusal.
+fn credential(statement: &[u8], period: &[u8], entities: u32, names: u32) -> Result<Credential, u32> {
     let kind = statement[0];
     if kind > 5 {
         return Err(4);
@@ -96,7 +91,7 @@ fn credential(rules: &Rules, statement: &[u8], period: &[u8], entities: u32, nam
         return Err(6);
     }
     let (from, to) = (word(period, 0), word(period, 1));
-    if (rules.refuses)(from, to) {
+    if from >= to {
         return Err(7);
     }
     let body = match kind {
@@ -105,7 +100,7 @@ fn credential(rules: &Rules, statement: &[u8], period: &[u8], entities: u32, nam
         2 => Body::Linked(role(b, s), t),
         _ => Body::Pair(kind, role(b, s), role(c, t)),
     };
-    Ok(Credential { serial: word(statement, 2), head: role(issuer, name), body, from, to })
+    Ok(Credential { head: role(issuer, name), body, from, to })
 }
 
 /// The 32-bit number at a position counted in numbers, lowest byte first.

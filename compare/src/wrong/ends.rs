@@ -1,22 +1,20 @@
 //! Wrong ways to list the ends, and the intervals of a span number.
 
-use super::{accepted, cleared, ends, intervals, number, refusal, unwritten, Wrong, RIGHT};
-use crate::calls::{Calls, Second, Slice};
+use super::{accepted, ends, intervals, number, refusal, unwritten, Wrong};
+use crate::calls::{zero, Calls, Second, Slice};
 use crate::reference::ends::{intervals as right, listed, BYTES};
-use crate::reference::Rules;
 
 pub const ALL: &[Wrong] = &[
     ends("ends-in-file-order", |s, f, l| relisted(s, f, l, |f| file_order(f, false)), "ends in file order"),
     ends("ends-neighbours-distinct", |s, f, l| relisted(s, f, l, |f| file_order(f, true)), "only neighbours in file order compared"),
     ends("ends-with-zero", |s, f, l| relisted(s, f, l, with_zero), "0 always among the ends"),
-    ends("ends-at-to", |_, f, l| Second { rules: AT_TO }.ends(f, l), "`to` listed, not to + 1, by this call only"),
     ends("ends-of-the-first", |s, f, l| relisted(s, f, l, first_only), "the first credential's ends alone"),
     ends("ends-tail-left", |s, f, l| tail_left(l, 4, || s.ends(f, l)), "bytes after the last end left"),
     ends("ends-not-written", |s, f, l| unwritten([l], || s.ends(f, l)), "list untouched after success"),
     ends("ends-highest-first", |s, f, l| highest_first(l, s.ends(f, l)), "highest byte first"),
     ends("ends-longer-list", |s, f, l| in_longer(l, |l| s.ends(f, l)), "lists of more than 256 bytes taken"),
     ends("ends-shorter-list", |s, f, l| in_shorter(s, f, l), "lists that just hold the ends taken"),
-    ends("ends-nine-first", |s, f, l| if l.length != BYTES { refusal(9) } else { s.ends(f, l) }, "9 before 1 to 8 and 17"),
+    ends("ends-nine-first", |s, f, l| if l.length != BYTES { refusal(9) } else { s.ends(f, l) }, "9 before 1 to 8"),
     ends("ends-cleared-on-9", |s, f, l| cleared(l, s.ends(f, l), 9), "list cleared after 9"),
     ends("ends-cleared-on-7", |s, f, l| cleared(l, s.ends(f, l), 7), "list cleared after 7"),
     ends("ends-sixty-four-refused", |s, f, l| if s.ends(f, l) == 64 { refusal(8) } else { s.ends(f, l) }, "64 ends refused"),
@@ -24,8 +22,7 @@ pub const ALL: &[Wrong] = &[
     ends("ends-exchanged", |s, f, l| s.ends(f, l).rotate_left(32), "place and number exchanged"),
     intervals("intervals-not-joined", |s, f, n, l| rewritten(s, f, n, l, |e, n| each_span(e, n)), "touching spans not joined"),
     intervals("intervals-over-gaps", |s, f, n, l| rewritten(s, f, n, l, over_gaps), "one interval from the first span to the last"),
-    intervals("intervals-at-to", |_, f, n, l| Second { rules: AT_TO }.intervals(f, n, l), "spans between `to` values, not to + 1, in this call only"),
-    intervals("intervals-inclusive", |s, f, n, l| rewritten(s, f, n, l, inclusive), "intervals that end with their last minute"),
+    intervals("intervals-inclusive", |s, f, n, l| rewritten(s, f, n, l, inclusive), "the last minute in place of `to`"),
     intervals("intervals-exchanged", |s, f, n, l| rewritten(s, f, n, l, |e, n| each_pair(e, n, |(from, to)| (to, from))), "to before from"),
     intervals("intervals-falling", |s, f, n, l| rewritten(s, f, n, l, falling), "descending"),
     intervals("intervals-next-span", |s, f, n, l| rewritten(s, f, n, l, |e, n| right(e, n >> 1).unwrap()), "bit i for span i - 1"),
@@ -43,7 +40,7 @@ pub const ALL: &[Wrong] = &[
         "as many spans as ends",
     ),
     intervals("intervals-eleven-first", eleven_before_nine, "11 before 9"),
-    intervals("intervals-nine-first", |s, f, n, l| if l.length != BYTES { refusal(9) } else { s.intervals(f, n, l) }, "9 before 1 to 8 and 17"),
+    intervals("intervals-nine-first", |s, f, n, l| if l.length != BYTES { refusal(9) } else { s.intervals(f, n, l) }, "9 before 1 to 8"),
     intervals("intervals-longer-list", |s, f, n, l| in_longer(l, |l| s.intervals(f, n, l)), "lists of more than 256 bytes taken"),
     intervals("intervals-cleared-on-9", |s, f, n, l| cleared(l, s.intervals(f, n, l), 9), "list cleared after 9"),
     intervals("intervals-cleared-on-11", |s, f, n, l| cleared(l, s.intervals(f, n, l), 11), "list cleared after 11"),
@@ -53,8 +50,6 @@ pub const ALL: &[Wrong] = &[
         "11 for a number without spans",
     ),
 ];
-
-const AT_TO: Rules = Rules { end: |to| to, ..RIGHT };
 
 fn on_success(reply: u64, change: impl FnOnce(u64) -> u64) -> u64 {
     if number(reply) == 0 {
@@ -77,7 +72,7 @@ fn relisted(second: &Second, file: Slice, list: Slice, change: fn(Slice) -> Vec<
 /// The ends as the credentials have them, each once, or each but where it follows itself.
 fn file_order(file: Slice, neighbours: bool) -> Vec<u32> {
     let mut ends = Vec::new();
-    for end in accepted(file).unwrap().credentials.iter().flat_map(|c| [c.from, c.to + 1]) {
+    for end in accepted(file).unwrap().credentials.iter().flat_map(|c| [c.from, c.to]) {
         let known = if neighbours { ends.last() == Some(&end) } else { ends.contains(&end) };
         if !known {
             ends.push(end);
@@ -87,7 +82,7 @@ fn file_order(file: Slice, neighbours: bool) -> Vec<u32> {
 }
 
 fn with_zero(file: Slice) -> Vec<u32> {
-    let mut ends = accepted(file).unwrap().ends;
+    let mut ends = accepted(file).unwrap().ends();
     if !ends.contains(&0) {
         ends.insert(0, 0);
     }
@@ -95,7 +90,7 @@ fn with_zero(file: Slice) -> Vec<u32> {
 }
 
 fn first_only(file: Slice) -> Vec<u32> {
-    accepted(file).unwrap().credentials.first().map_or(vec![], |c| vec![c.from, c.to + 1])
+    accepted(file).unwrap().credentials.first().map_or(vec![], |c| vec![c.from, c.to])
 }
 
 /// The list as it was after the first entries of so many bytes.
@@ -122,7 +117,7 @@ fn in_longer(list: Slice, call: impl FnOnce(Slice) -> u64) -> u64 {
 
 fn in_shorter(second: &Second, file: Slice, list: Slice) -> u64 {
     let reply = second.ends(file, list);
-    match accepted(file).map(|file| file.ends) {
+    match accepted(file).map(|file| file.ends()) {
         Some(ends) if number(reply) == 9 && list.length < BYTES && list.length % 4 == 0 && ends.len() * 4 <= list.length => {
             list.write(&listed(ends.iter().copied())[..list.length]);
             ends.len() as u64
@@ -131,10 +126,17 @@ fn in_shorter(second: &Second, file: Slice, list: Slice) -> u64 {
     }
 }
 
+fn cleared(list: Slice, reply: u64, on: u64) -> u64 {
+    if number(reply) == on {
+        zero(&[list]);
+    }
+    reply
+}
+
 /// Other intervals where the right call writes some.
 fn rewritten(second: &Second, file: Slice, spans: u64, list: Slice, change: fn(&[u32], u64) -> Vec<(u32, u32)>) -> u64 {
     on_success(second.intervals(file, spans, list), |_| {
-        let mut intervals = change(&accepted(file).unwrap().ends, spans);
+        let mut intervals = change(&accepted(file).unwrap().ends(), spans);
         intervals.truncate(32);
         list.write(&listed(intervals.iter().flat_map(|&(from, to)| [from, to])));
         intervals.len() as u64
@@ -168,7 +170,7 @@ fn spans_counted(second: &Second, file: Slice, spans: u64, list: Slice) -> u64 {
 
 /// The bits of a number that are among the spans of an accepted file, and some more.
 fn within(file: Slice, spans: u64, more: usize) -> u64 {
-    let count = accepted(file).map_or(63, |file| file.ends.len().saturating_sub(1));
+    let count = accepted(file).map_or(63, |file| file.ends().len().saturating_sub(1));
     (0..64).filter(|&i| i < count + more && spans >> i & 1 == 1).map(|i| 1 << i).sum()
 }
 

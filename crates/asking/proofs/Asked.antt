@@ -17,7 +17,7 @@ use Rattle.file.specs.declared.Refusal.{Refusal}
 use Rattle.file.specs.Refusals.{RefusalRow, Outcome, done, refused, first}
 use Rattle.file.specs.Values.{refusalOf, firstRefusal}
 use Rattle.file.specs.Format.{E, R, N}
-use Rattle.file.specs.Reading.{headRows, checkRows, credentialsRows, endsRow, reading}
+use Rattle.file.specs.Reading.{headRows, credentialRows, credentialsRows, endsRow, reading}
 use Rattle.file.proofs.First.{after, numbered, noneHolds, first-append, first-clear, first-holds, holds-first, numbered-append, not-not}
 use Rattle.file.proofs.Refusals.{accepted-read, accepted-exact}
 use Rattle.survey.proofs.Surveying.{reading-numbered}
@@ -73,10 +73,10 @@ rows-passed : {B : Type 0} (rows more : List RefusalRow) (b : B) → first rows 
 rows-passed {B} rows more b e =
     first-append {A = B} {B = B} rows more b b ∙ ap (λ (o : Outcome B). after {A = B} {B = B} o (first more b)) e
 
--- ---- the numbers: 1 to 17, and neither 10 nor 13, which clear lists
+-- ---- 1 to 12, and not 10
 
 abbrev low : ℕ → Bool
-low n = leb 1 n && leb n 17 && not (eqb n 10) && not (eqb n 13)
+low n = leb 1 n && leb n 12 && not (eqb n 10)
 
 abbrev lowRow : RefusalRow → Bool
 lowRow r = low (r .number)
@@ -85,7 +85,7 @@ reading-low : (f : List ℕ) → T (all lowRow (reading f))
 unfolding reading
 reading-low f =
     all-append lowRow (headRows f) (credentialsRows f ++ endsRow f ∷ []) tt
-    (all-append lowRow (credentialsRows f) (endsRow f ∷ []) (all-each lowRow (checkRows f) (below (N f)) (λ i. tt)) tt)
+    (all-append lowRow (credentialsRows f) (endsRow f ∷ []) (all-each lowRow (credentialRows f) (below (N f)) (λ i. tt)) tt)
 
 -- ---- a request
 
@@ -138,17 +138,15 @@ module _ (f : List ℕ) (q : Request) (t : StepLists) where
           minute = λ i. T-not (eqb (q .minute) 4294967295) (and-left m true (and-right (not (not (w && s))) (m && true) v)) (eq-in _ _ i);
         }
 
-    -- The refusals of a request are 1 to 17, and neither 10 nor 13, which clear lists.
-    pub asked-low : (r .number ≡ 0 → ⊥) → (1 ≤ r .number) × (r .number ≤ 17) × (r .number ≡ 10 → ⊥) × (r .number ≡ 13 → ⊥)
+    -- The refusals of a request are 1 to 12 other than 10, so 10 and 13 are not among them.
+    pub asked-low : (r .number ≡ 0 → ⊥) → (1 ≤ r .number) × (r .number ≤ 12) × (r .number ≡ 10 → ⊥)
     asked-low h =
         let n = r .number in
         let u = first-number {A = ℕ} low (asking f q t ++ []) 0 {n = n} {p = r .place} (all-append lowRow (asking f q t) [] asking-low tt) (asked-refused h {B = ℕ} [] 0) in
-        let v = and-left (leb 1 n && leb n 17 && not (eqb n 10)) (not (eqb n 13)) u in
-        let w = and-left (leb 1 n && leb n 17) (not (eqb n 10)) v in (
-          leb→le 1 n (and-left (leb 1 n) (leb n 17) w),
-          leb→le n 17 (and-right (leb 1 n) (leb n 17) w),
-          λ i. T-not (eqb n 10) (and-right (leb 1 n && leb n 17) (not (eqb n 10)) v) (eq-in _ _ i),
-          λ i. T-not (eqb n 13) (and-right (leb 1 n && leb n 17 && not (eqb n 10)) (not (eqb n 13)) u) (eq-in _ _ i),
+        let v = and-left (leb 1 n && leb n 12) (not (eqb n 10)) u in (
+          leb→le 1 n (and-left (leb 1 n) (leb n 12) v),
+          leb→le n 12 (and-right (leb 1 n) (leb n 12) v),
+          λ i. T-not (eqb n 10) (and-right (leb 1 n && leb n 12) (not (eqb n 10)) u) (eq-in _ _ i),
         )
 
 -- ---- within the file's numbers

@@ -13,7 +13,7 @@ use Rattle.file.specs.Refusals.{RefusalRow, Outcome, done, refused, first, _whe
 use Rattle.file.specs.Reading.{between, reading}
 use Rattle.file.specs.Conditions.{Accepted}
 use Rattle.file.proofs.First.{after, first-append}
-use Rattle.file.proofs.Refusals.{pass, give, accepted-read, refused-read, not-of-file, Verdict, verdict, by-test}
+use Rattle.file.proofs.Refusals.{pass, give, accepted-read, refused-read, refused-low, Verdict, verdict, by-test}
 use Rattle.asking.specs.Asking.{Request, StepLists, size, oneLength, within, requestRows, asking, Askable}
 use Rattle.asking.specs.Conditions.{OneLength, Numbers, RefusedRequest, file, lengths, numbers, minute}
 use Rattle.asking.proofs.Asked.{first-number, asking-done, askable-passes, within-bits}
@@ -142,19 +142,19 @@ module _ (f : List ℕ) (q : Request) (t : StepLists) where
 
 module _ (f : List ℕ) (q : Request) (t : StepLists) where
   nine-out : {n p : ℕ} → RefusedRequest f q t n p → n ≡ 9 → Accepted f × ¬ OneLength t
-  nine-out (file r) e = absurd (not-of-file f r 9 tt e)
+  nine-out (file r) e = absurd (omega (arith, refused-low f r))
   nine-out (lengths c h) e = (c, h)
   nine-out (numbers c o h) e = absurd (omega arith)
   nine-out (minute c o n m) e = absurd (omega arith)
 
   eleven-out : {n p : ℕ} → RefusedRequest f q t n p → n ≡ 11 → Accepted f × OneLength t × ¬ Numbers f q
-  eleven-out (file r) e = absurd (not-of-file f r 11 tt e)
+  eleven-out (file r) e = absurd (omega (arith, refused-low f r))
   eleven-out (lengths c h) e = absurd (omega arith)
   eleven-out (numbers c o h) e = (c, o, h)
   eleven-out (minute c o n m) e = absurd (omega arith)
 
   twelve-out : {n p : ℕ} → RefusedRequest f q t n p → n ≡ 12 → Accepted f × OneLength t × Numbers f q × (q .minute ≡ 4294967295)
-  twelve-out (file r) e = absurd (not-of-file f r 12 tt e)
+  twelve-out (file r) e = absurd (omega (arith, refused-low f r))
   twelve-out (lengths c h) e = absurd (omega arith)
   twelve-out (numbers c o h) e = absurd (omega arith)
   twelve-out (minute c o n m) e = (c, o, n, m)

@@ -14,8 +14,8 @@ use Rattle.checking.proofs.Passing as Passing
 use Rattle.checking.proofs.Parts.{AgreeBelow, same-answer}
 
 module _ (f : List ℕ) (q : Request) (t : StepLists) (n : ℕ) where
-  -- Every refusal is one of 1 to 9, 11, 12 and 14 to 17: never 10, and never 13.
-  pub refusal-numbers : (k p : ℕ) → checking f q t n ≡ refused k p → (1 ≤ k) × (k ≤ 17) × (k ≡ 10 → ⊥) × (k ≡ 13 → ⊥)
+  -- Every refusal is one of 1 to 9, 11, 12 and 14 to 16: never 10, and never 13.
+  pub refusal-numbers : (k p : ℕ) → checking f q t n ≡ refused k p → (1 ≤ k) × (k ≤ 16) × (k ≡ 10 → ⊥) × (k ≡ 13 → ⊥)
   refusal-numbers = Passing.refusal-numbers f q t n
 
   -- Entries at and past the step count play no part: two proofs that agree below it are answered alike.

@@ -224,7 +224,7 @@ module _ (f : List ℕ) (q : Request) (t : StepLists) (n : ℕ) where
   -- ---- the numbers of the refusals
 
   abbrev number : ℕ → Bool
-  number k = leb 1 k && leb k 17 && not (eqb k 10) && not (eqb k 13)
+  number k = leb 1 k && leb k 16 && not (eqb k 10) && not (eqb k 13)
 
   rows-number : (l : List ℕ) → T (all (λ (r : RefusalRow). number (r .number)) (map (stepRow (credentials f) (q .minute) (partBefore n t)) l))
   rows-number [] = tt
@@ -234,18 +234,18 @@ module _ (f : List ℕ) (q : Request) (t : StepLists) (n : ℕ) where
   proof-numbers = all-append (λ (r : RefusalRow). number (r .number)) (map (stepRow (credentials f) (q .minute) (partBefore n t)) (below n)) (lastRow (credentials f) q (partBefore n t) n ∷ []) (rows-number (below n)) tt
 
   abbrev Numbered : ℕ → Type 0
-  Numbered k = (1 ≤ k) × (k ≤ 17) × (k ≡ 10 → ⊥) × (k ≡ 13 → ⊥)
+  Numbered k = (1 ≤ k) × (k ≤ 16) × (k ≡ 10 → ⊥) × (k ≡ 13 → ⊥)
 
   number-out : (k : ℕ) → T (number k) → Numbered k
   number-out k u =
       let a = leb 1 k in
-      let b = leb k 17 in
+      let b = leb k 16 in
       let c = not (eqb k 10) in
       let d = not (eqb k 13) in
       let v = and-left (a && b && c) d u in
       let w = and-left (a && b) c v in (
         leb→le 1 k (and-left a b w),
-        leb→le k 17 (and-right a b w),
+        leb→le k 16 (and-right a b w),
         λ e. T-not (eqb k 10) (and-right (a && b) c v) (eq-in k 10 e),
         λ e. T-not (eqb k 13) (and-right (a && b && c) d u) (eq-in k 13 e),
       )
@@ -255,9 +255,10 @@ module _ (f : List ℕ) (q : Request) (t : StepLists) (n : ℕ) where
   refusal-numbers k p e =
       dite (ℕ-discrete (r .number) 0)
       (λ z. number-out k (first-number number (proofRows (credentials f) q t n) (level f q t n) proof-numbers (sym (asked-passed f q t r refl z (proofRows (credentials f) q t n) (level f q t n)) ∙ e)))
-      (λ h. let c = asked-refused f q t r refl h (proofRows (credentials f) q t n) (level f q t n) in
+      (λ h. let l = asked-low f q t r refl h in
+      let c = asked-refused f q t r refl h (proofRows (credentials f) q t n) (level f q t n) in
       let i : r .number ≡ k = cc in
-      subst Numbered i (asked-low f q t r refl h))
+      subst Numbered i (l .0, omega arith, l .2, λ x. omega arith))
     where
       r : Refusal
       r = firstRefusal (asking f q t)

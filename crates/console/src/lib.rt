@@ -8,10 +8,10 @@ use libc::STDIN_FILENO;
 use libc::STDOUT_FILENO;
 
 // One byte more than the longest valid file, so that a longer input is refused as one.
-pub fn room() -> [u8; 5127]
-    ensures { λ r. ⌜ 5127 ≡ length r ⌝ }
+pub fn room() -> [u8; 4103]
+    ensures { λ r. ⌜ 4103 ≡ length r ⌝ }
 {
-    [0; 5127]
+    [0; 4103]
 }
 
 // What was read of standard input.

@@ -1,4 +1,4 @@
-// Reads a credentials file on standard input and prints each credential on a line: position, #serial, head, body, from..to; or `refused`, number,
+// Reads a credentials file on standard input and prints each credential on a line: position, head, body, from..to; or `refused`, number,
 // place, with what that means on standard error, after the credentials before the one at fault.
 use file::Found;
 use walker::Entry;
@@ -60,7 +60,7 @@ fn print_credentials(file: &[u8]) {
 fn main() {
     if 1 < os::arg_count() {
         console::usage(
-            b"usage: rtt-credentials < FILE\nFILE is a credentials file. Prints each credential: position, #serial, head, body, from..to.\n",
+            b"usage: rtt-credentials < FILE\nFILE is a credentials file. Prints each credential: position, head, body, from..to.\n",
         );
         return;
     }

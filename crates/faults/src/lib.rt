@@ -12,7 +12,7 @@ pub fn fault(file: &[u8], h: file::Head, i: usize) -> u32
     requires { ⌜ (Headed (now file) h) × (i < N (now file)) ⌝ }
     ensures { λ r. ⌜ r ≡ firstNumber (credentialRows (now (file .entry)) i) ⌝ }
 {
-    if 5 < file[6 + 12 * i] {
+    if 5 < file[6 + 8 * i] {
         return 4;
     }
     let e = h.entities;
@@ -23,11 +23,8 @@ pub fn fault(file: &[u8], h: file::Head, i: usize) -> u32
     if !zeroed(file, i) {
         return 6;
     }
-    let v = file::dates_at(file, h, i);
-    if v.to < v.from {
-        return 7;
-    }
-    if v.to == 4294967295 {
+    let v = file::read_period(file, h, i);
+    if v.until <= v.from {
         return 7;
     }
     0
@@ -72,7 +69,7 @@ fn in_range(file: &[u8], i: usize, e: u32, r: u32) -> bool
     requires { ⌜ Stated (now file) i ⌝ ∗ ⌜ (e ≡ E (now file)) × (r ≡ R (now file)) ⌝ }
     ensures { λ ok. ⌜ ok ≡ inRange (now (file .entry)) i ⌝ }
 {
-    let at = 6 + 12 * i;
+    let at = 6 + 8 * i;
     let u = used_by(file[at]);
     let entities = below(file, at + 1, e)
         & below(file, at + 3, e)
@@ -88,7 +85,7 @@ fn zeroed(file: &[u8], i: usize) -> bool
     requires { ⌜ Stated (now file) i ⌝ }
     ensures { λ ok. ⌜ ok ≡ zeros (now (file .entry)) i ⌝ }
 {
-    let at = 6 + 12 * i;
+    let at = 6 + 8 * i;
     let u = used_by(file[at]);
     (u.s | (file[at + 4] == 0))
         & (u.c | (file[at + 5] == 0))

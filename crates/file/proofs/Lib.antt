@@ -1,8 +1,6 @@
 pub mod First
 pub mod Uses
 pub mod Sizes
-pub mod Dating
-pub mod Serials
 pub mod Faults
 pub mod Rows
 pub mod Readable

@@ -1,7 +1,7 @@
--- Refusals 1 to 8 and 17 are given exactly under the documents' conditions.
+-- Refusals 1 to 8 are given exactly under document 01's conditions.
 use mathlib.Core.Path.{_≡_, refl, sym, ap, ap₂, _∙_, subst, subst⁻¹}
 use mathlib.Core.Logic.{_⊎_, inl, inr, _↔_}
-use mathlib.Core.Bool.{Bool, true, false, _&&_, _||_, not}
+use mathlib.Core.Bool.{Bool, true, false, _&&_, not}
 use mathlib.Core.List.{List, [], _∷_, _++_, append-assoc, List·Memᴰ as Mem, List·Memᴰ·head as head, List·Memᴰ·tail as tail}
 use Prim.Native.Nat.{ℕ, zero, suc, _+_, _-_, _<_, _≤_, zero-le}
 use native.Mathlib.Nat.{le-refl}
@@ -13,10 +13,8 @@ use Rattle.meaning.specs.Table.{ends}
 use Rattle.meaning.proofs.Tests.{and-in, and-left, and-right, eq-in, all-out}
 use Rattle.file.specs.Refusals.{RefusalRow, Outcome, done, refused, first, _when_, _at_when_}
 use Rattle.file.specs.Format.{E, R, N, lengthFor, field, fromOf, toOf, credentials}
-use Rattle.file.specs.Reading.{between, uses, inRange, zeros, undated, headRows, taken, serialRow, checkRows, endsRow, reading, read}
-use Rattle.file.proofs.Dating.{undated-in, not-both, dated-or-not}
-use Rattle.file.proofs.Serials.{taken-in, not-taken, fresh-or-taken}
-use Rattle.file.specs.Conditions.{Limits, Head, Ranges, Zeros, Dated, Undated, Fresh, Taken, Good, GoodBelow, Accepted, Reached, Refused, short, limits, wrongLength, kind, range, unused, period, serial, tooManyEnds}
+use Rattle.file.specs.Reading.{between, uses, inRange, zeros, headRows, credentialRows, endsRow, reading, read}
+use Rattle.file.specs.Conditions.{Limits, Head, Ranges, Zeros, Good, GoodBelow, Accepted, Reached, Refused, short, limits, wrongLength, kind, range, unused, period, tooManyEnds}
 
 -- ---- the first row that holds
 
@@ -114,11 +112,11 @@ module _ (f : List ℕ) where
   zerosRow i = 6 at i when (not (zeros f i))
 
   abbrev periodRow : ℕ → RefusalRow
-  periodRow i = 7 at i when (undated f i)
+  periodRow i = 7 at i when (leb (toOf f i) (fromOf f i))
 
   -- the rows of n credentials from i on, and then the row of 8
   abbrev rowsFrom : ℕ → ℕ → List RefusalRow
-  rowsFrom i n = each (checkRows f) (upFrom i n) ++ endsRow f ∷ []
+  rowsFrom i n = each (credentialRows f) (upFrom i n) ++ endsRow f ∷ []
 
 module _ {A : Type 0} (a : A) (f : List ℕ) where
   short-passes : 6 ≤ length f → (rows : List RefusalRow) → first (shortRow f ∷ rows) a ≡ first rows a
@@ -147,20 +145,16 @@ module _ {A : Type 0} (a : A) (f : List ℕ) where
     zeros-pass : Zeros f i → first (zerosRow f i ∷ rows) a ≡ first rows a
     zeros-pass z = pass a (zerosRow f i) rows (λ t. T-not (zeros f i) t (zeros-in f i z))
 
-    period-passes : Dated f i → first (periodRow f i ∷ rows) a ≡ first rows a
-    period-passes h = pass a (periodRow f i) rows (not-both f i h)
+    period-passes : fromOf f i < toOf f i → first (periodRow f i ∷ rows) a ≡ first rows a
+    period-passes h = pass a (periodRow f i) rows (λ t. omega (arith, leb→le (toOf f i) (fromOf f i) t))
 
-    serial-passes : Fresh f i → first (serialRow f i ∷ rows) a ≡ first rows a
-    serial-passes h = pass a (serialRow f i) rows (not-taken f i h)
-
-  good-passes : (i : ℕ) → Good f i → (rows : List RefusalRow) → first (checkRows f i ++ rows) a ≡ first rows a
+  good-passes : (i : ℕ) → Good f i → (rows : List RefusalRow) → first (credentialRows f i ++ rows) a ≡ first rows a
   good-passes i g rows =
-      kind-passes i (rangeRow f i ∷ zerosRow f i ∷ periodRow f i ∷ serialRow f i ∷ rows) (g .kind)
-      ∙ range-passes i (zerosRow f i ∷ periodRow f i ∷ serialRow f i ∷ rows) (g .ranges) ∙ zeros-pass i (periodRow f i ∷ serialRow f i ∷ rows) (g .zeros)
-      ∙ period-passes i (serialRow f i ∷ rows) (g .period) ∙ serial-passes i rows (g .serial)
+      kind-passes i (rangeRow f i ∷ zerosRow f i ∷ periodRow f i ∷ rows) (g .kind) ∙ range-passes i (zerosRow f i ∷ periodRow f i ∷ rows) (g .ranges)
+      ∙ zeros-pass i (periodRow f i ∷ rows) (g .zeros) ∙ period-passes i rows (g .period)
 
-  one-more : (i n : ℕ) → rowsFrom f i (suc n) ≡ checkRows f i ++ rowsFrom f (suc i) n
-  one-more i n = append-assoc (checkRows f i) (each (checkRows f) (upFrom (suc i) n)) (endsRow f ∷ [])
+  one-more : (i n : ℕ) → rowsFrom f i (suc n) ≡ credentialRows f i ++ rowsFrom f (suc i) n
+  one-more i n = append-assoc (credentialRows f i) (each (credentialRows f) (upFrom (suc i) n)) (endsRow f ∷ [])
 
   -- k good credentials are passed over
   good-pass : (k i t n u : ℕ) → k + i ≡ t → k + n ≡ u → ((j : ℕ) → i ≤ j → j < t → Good f j) → first (rowsFrom f i u) a ≡ first (rowsFrom f t n) a
@@ -179,7 +173,7 @@ module _ {A : Type 0} (a : A) (f : List ℕ) where
   unfolding reading
   good-read t n h e g = head-passes h (rowsFrom f 0 (N f)) ∙ good-pass t 0 t n (N f) (omega arith) (sym e) (λ j l m. g j m)
 
-  reached-read : (i : ℕ) → Reached f i → (n : ℕ) × (read f a ≡ first (checkRows f i ++ rowsFrom f (suc i) n) a)
+  reached-read : (i : ℕ) → Reached f i → (n : ℕ) × (read f a ≡ first (credentialRows f i ++ rowsFrom f (suc i) n) a)
   reached-read i r =
       let n = N f - suc i in
       let b = r .below in
@@ -203,28 +197,22 @@ module _ {A : Type 0} (a : A) (f : List ℕ) where
       ∙ give a (lengthRow f) (rowsFrom f 0 (N f)) (not-T (eqb (length f) (lengthFor (N f))) (λ t. e (eqb→eq _ _ t)))
   refused-read (kind i r h) =
       let x = reached-read i r in
-      let rows = serialRow f i ∷ rowsFrom f (suc i) (x .0) in
+      let rows = rowsFrom f (suc i) (x .0) in
       x .1 ∙ give a (kindRow f i) (rangeRow f i ∷ zerosRow f i ∷ periodRow f i ∷ rows) (lt→ltb 5 (field f i 0) h)
   refused-read (range i r k h) =
       let x = reached-read i r in
-      let rows = zerosRow f i ∷ periodRow f i ∷ serialRow f i ∷ rowsFrom f (suc i) (x .0) in
+      let rows = zerosRow f i ∷ periodRow f i ∷ rowsFrom f (suc i) (x .0) in
       x .1 ∙ kind-passes i (rangeRow f i ∷ rows) k ∙ give a (rangeRow f i) rows (not-T (inRange f i) (λ t. h (ranges-out f i t)))
   refused-read (unused i r k s h) =
       let x = reached-read i r in
-      let rows = periodRow f i ∷ serialRow f i ∷ rowsFrom f (suc i) (x .0) in
+      let rows = periodRow f i ∷ rowsFrom f (suc i) (x .0) in
       x .1 ∙ kind-passes i (rangeRow f i ∷ zerosRow f i ∷ rows) k ∙ range-passes i (zerosRow f i ∷ rows) s
       ∙ give a (zerosRow f i) rows (not-T (zeros f i) (λ t. h (zeros-out f i t)))
   refused-read (period i r k s z h) =
       let x = reached-read i r in
-      let rows = serialRow f i ∷ rowsFrom f (suc i) (x .0) in
-      x .1 ∙ kind-passes i (rangeRow f i ∷ zerosRow f i ∷ periodRow f i ∷ rows) k ∙ range-passes i (zerosRow f i ∷ periodRow f i ∷ rows) s
-      ∙ zeros-pass i (periodRow f i ∷ rows) z ∙ give a (periodRow f i) rows (undated-in f i h)
-  refused-read (serial i r k s z d h) =
-      let x = reached-read i r in
       let rows = rowsFrom f (suc i) (x .0) in
-      x .1 ∙ kind-passes i (rangeRow f i ∷ zerosRow f i ∷ periodRow f i ∷ serialRow f i ∷ rows) k
-      ∙ range-passes i (zerosRow f i ∷ periodRow f i ∷ serialRow f i ∷ rows) s ∙ zeros-pass i (periodRow f i ∷ serialRow f i ∷ rows) z
-      ∙ period-passes i (serialRow f i ∷ rows) d ∙ give a (serialRow f i) rows (taken-in f i h)
+      x .1 ∙ kind-passes i (rangeRow f i ∷ zerosRow f i ∷ periodRow f i ∷ rows) k ∙ range-passes i (zerosRow f i ∷ periodRow f i ∷ rows) s
+      ∙ zeros-pass i (periodRow f i ∷ rows) z ∙ give a (periodRow f i) rows (le→leb (toOf f i) (fromOf f i) h)
   refused-read (tooManyEnds h g l) =
       good-read (N f) 0 h (omega arith) g ∙ give a (endsRow f) [] (lt→ltb 64 (length (ends (credentials f))) l)
 
@@ -252,16 +240,12 @@ module _ (f : List ℕ) where
       Result : Type 0
       Result = Good f i ⊎ ((n p : ℕ) × Refused f n p)
 
-      by-serial : field f i 0 ≤ 5 → Ranges f i → Zeros f i → Dated f i → Fresh f i ⊎ Taken f i → Result
-      by-serial k s z d (inl h) = inl (record { kind = k; ranges = s; zeros = z; period = d; serial = h })
-      by-serial k s z d (inr h) = inr (17, i, serial i r k s z d h)
-
-      by-period : field f i 0 ≤ 5 → Ranges f i → Zeros f i → Dated f i ⊎ Undated f i → Result
-      by-period k s z (inl d) = by-serial k s z d (fresh-or-taken f i)
+      by-period : field f i 0 ≤ 5 → Ranges f i → Zeros f i → (fromOf f i < toOf f i) ⊎ (toOf f i ≤ fromOf f i) → Result
+      by-period k s z (inl h) = inl (record { kind = k; ranges = s; zeros = z; period = h })
       by-period k s z (inr h) = inr (7, i, period i r k s z h)
 
       by-zeros : field f i 0 ≤ 5 → Ranges f i → Zeros f i ⊎ (¬ Zeros f i) → Result
-      by-zeros k s (inl z) = by-period k s z (dated-or-not f i)
+      by-zeros k s (inl z) = by-period k s z (less (fromOf f i) (toOf f i))
       by-zeros k s (inr z) = inr (6, i, unused i r k s z)
 
       by-range : field f i 0 ≤ 5 → Ranges f i ⊎ (¬ Ranges f i) → Result
@@ -332,31 +316,13 @@ module _ {A : Type 0} (a : A) (f : List ℕ) where
       go e (inl c) = c
       go e (inr (k, q, r)) = let x = refused-read a f r in let z : _≡_ {A = ℕ} 0 1 = cc in absurd (omega arith)
 
--- ---- their numbers
-
--- 1 to 8, and 17
-abbrev pub ofFile : ℕ → Bool
-ofFile n = between 1 8 n || eqb n 17
-
-pub refused-of-file : (f : List ℕ) {n p : ℕ} → Refused f n p → T (ofFile n)
-refused-of-file f (short h) = tt
-refused-of-file f (limits h l) = tt
-refused-of-file f (wrongLength h l e) = tt
-refused-of-file f (kind i r h) = tt
-refused-of-file f (range i r k h) = tt
-refused-of-file f (unused i r k s h) = tt
-refused-of-file f (period i r k s z h) = tt
-refused-of-file f (serial i r k s z d h) = tt
-refused-of-file f (tooManyEnds h g l) = tt
-
--- they are not 0
-pub refused-some : (f : List ℕ) {n p : ℕ} → Refused f n p → 1 ≤ n
-refused-some f {n} r = go n (refused-of-file f r)
-  where
-    go : (n : ℕ) → T (ofFile n) → 1 ≤ n
-    go zero t = absurd t
-    go (suc n) t = omega arith
-
--- a number that is none of them is not the number of a file's refusal
-pub not-of-file : (f : List ℕ) {n p : ℕ} → Refused f n p → (m : ℕ) → T (not (ofFile m)) → ¬ (n ≡ m)
-not-of-file f r m t e = T-not (ofFile m) t (subst (λ (k : ℕ). T (ofFile k)) e (refused-of-file f r))
+-- their numbers
+pub refused-low : (f : List ℕ) {n p : ℕ} → Refused f n p → n ≤ 8
+refused-low f (short h) = omega arith
+refused-low f (limits h l) = omega arith
+refused-low f (wrongLength h l e) = omega arith
+refused-low f (kind i r h) = omega arith
+refused-low f (range i r k h) = omega arith
+refused-low f (unused i r k s h) = omega arith
+refused-low f (period i r k s z h) = omega arith
+refused-low f (tooManyEnds h g l) = omega arith

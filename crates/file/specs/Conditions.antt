@@ -1,11 +1,10 @@
--- The documents' conditions for refusals 1 to 8 and 17, in propositions: when each is given, and when none is.
+-- Document 01's conditions for refusals 1 to 8, in propositions: when each is given, and when none is.
 use mathlib.Core.Path.{_≡_}
-use mathlib.Core.Logic.{_⊎_}
 use mathlib.Core.List.{List, List·Memᴰ as Mem}
 use Prim.Native.Nat.{ℕ, _<_, _≤_}
 use lib.ListN.{length}
 use Rattle.meaning.specs.Table.{ends}
-use Rattle.file.specs.Format.{E, R, N, lengthFor, field, serialOf, fromOf, toOf, credentials}
+use Rattle.file.specs.Format.{E, R, N, lengthFor, field, fromOf, toOf, credentials}
 use Rattle.file.specs.Reading.{uses}
 
 -- E and R are 1 to 32, N is 0 to 256
@@ -28,36 +27,17 @@ pub record Ranges (f : List ℕ) (i : ℕ) : Type 0 where
 abbrev pub Zeros : List ℕ → ℕ → Type 0
 Zeros f i = (j : ℕ) → Mem j (uses (field f i 0) .unused) → field f i j ≡ 0
 
--- from is not above to, and to is a minute
-pub record Dated (f : List ℕ) (i : ℕ) : Type 0 where
-  pub order : fromOf f i ≤ toOf f i
-  pub minute : ¬ (toOf f i ≡ 4294967295)
-
--- from is above to, or to is no minute
-abbrev pub Undated : List ℕ → ℕ → Type 0
-Undated f i = (toOf f i < fromOf f i) ⊎ (toOf f i ≡ 4294967295)
-
--- the serial is not zero, and no earlier credential has it
-pub record Fresh (f : List ℕ) (i : ℕ) : Type 0 where
-  pub some : ¬ (serialOf f i ≡ 0)
-  pub new : (j : ℕ) → j < i → ¬ (serialOf f j ≡ serialOf f i)
-
--- the serial is zero, or some earlier credential has it
-abbrev pub Taken : List ℕ → ℕ → Type 0
-Taken f i = (serialOf f i ≡ 0) ⊎ ((j : ℕ) × (j < i) × (serialOf f j ≡ serialOf f i))
-
--- credential i passes 4 to 7 and 17
+-- credential i passes 4 to 7
 pub record Good (f : List ℕ) (i : ℕ) : Type 0 where
   pub kind : field f i 0 ≤ 5
   pub ranges : Ranges f i
   pub zeros : Zeros f i
-  pub period : Dated f i
-  pub serial : Fresh f i
+  pub period : fromOf f i < toOf f i
 
 abbrev pub GoodBelow : List ℕ → ℕ → Type 0
 GoodBelow f n = (i : ℕ) → i < n → Good f i
 
--- refusals 1 to 8 and 17 are not given
+-- refusals 1 to 8 are not given
 pub record Accepted (f : List ℕ) : Type 0 where
   pub head : Head f
   pub good : GoodBelow f (N f)
@@ -77,6 +57,5 @@ pub data Refused (f : List ℕ) : ℕ → ℕ → Type 0 where
   kind : (i : ℕ) → Reached f i → 5 < field f i 0 → Refused f 4 i
   range : (i : ℕ) → Reached f i → field f i 0 ≤ 5 → ¬ Ranges f i → Refused f 5 i
   unused : (i : ℕ) → Reached f i → field f i 0 ≤ 5 → Ranges f i → ¬ Zeros f i → Refused f 6 i
-  period : (i : ℕ) → Reached f i → field f i 0 ≤ 5 → Ranges f i → Zeros f i → Undated f i → Refused f 7 i
-  serial : (i : ℕ) → Reached f i → field f i 0 ≤ 5 → Ranges f i → Zeros f i → Dated f i → Taken f i → Refused f 17 i
+  period : (i : ℕ) → Reached f i → field f i 0 ≤ 5 → Ranges f i → Zeros f i → toOf f i ≤ fromOf f i → Refused f 7 i
   tooManyEnds : Head f → GoodBelow f (N f) → 64 < length (ends (credentials f)) → Refused f 8 0

@@ -10,13 +10,12 @@ use Rattle.meaning.specs.Lists.{if, any}
 use Rattle.meaning.specs.Credentials as M
 use Rattle.meaning.specs.Credentials.{_⟵_, _during_}
 use Rattle.file.specs.Refusals.{RefusalRow, Outcome, first, numberOf, placeOf}
-use Rattle.file.specs.Format.{statedBy, credentialIn, E, R, N, lengthFor, field, serialOf, fromOf, toOf, roleOf, roleNumber, meaningOf, bodyIn, periodOf}
+use Rattle.file.specs.Format.{statedBy, credentialIn, E, R, N, lengthFor, field, roleOf, roleNumber, meaningOf, bodyIn, periodOf}
 use Rattle.file.specs.Reading.{uses, headRows, credentialRows}
 use Rattle.file.specs.declared.Used.{Used}
 use Rattle.file.specs.declared.Head.{Head}
 use Rattle.file.specs.declared.Refusal.{Refusal}
 use Rattle.file.specs.declared.Period.{Period}
-use Rattle.file.specs.declared.Dates.{Dates}
 use Rattle.file.specs.declared.Credential.{Credential}
 use Rattle.file.specs.declared.Body.{Body}
 use Rattle.file.specs.declared.Found as D
@@ -63,10 +62,6 @@ pub record Stated (f : List ℕ) (i : ℕ) : Type 0 where
   pub long : length f ≡ lengthFor (N f)
   pub kind : field f i 0 ≤ 5
 
--- from and to of credential i, and its period
-abbrev pub datesIn : List ℕ → ℕ → Dates
-datesIn f i = record { from = fromOf f i; to = toOf f i }
-
 abbrev pub periodIn : List ℕ → ℕ → Period
 periodIn f i = record { from = periodOf f i .from; until = periodOf f i .until }
 
@@ -75,7 +70,7 @@ abbrev pub readable : List ℕ → ℕ → Bool
 readable f i = clear (headRows f) && ltb i (N f) && clear (credentialRows f i)
 
 abbrev pub valueOf : List ℕ → ℕ → Body → Credential
-valueOf f i e = record { serial = serialOf f i; head = roleOf (field f i 1) (field f i 2); body = e; period = periodIn f i }
+valueOf f i e = record { head = roleOf (field f i 1) (field f i 2); body = e; period = periodIn f i }
 
 abbrev pub found : Credential → D.Found
 found c = F.Credential c
@@ -91,10 +86,9 @@ foundIn f i = if (readable f i) (foundOf f i (bodyIn f i)) F.End
 abbrev pub meantBy : Credential → M.Credential
 meantBy c = roleNumber (c .head) ⟵ meaningOf (c .body) during record { from = c .period .from; until = c .period .until }
 
--- What is read at a position: a value that means the credential there, states the bytes of its statement and has their serial.
+-- What is read at a position: a value that means the credential there, and that states the bytes of its statement.
 pub record Read (f : List ℕ) (i : ℕ) : Type 0 where
   pub value : Credential
   pub found : foundIn f i ≡ F.Credential value
   pub means : meantBy value ≡ credentialIn f i
   pub states : statedBy (value .body) ≡ field f i 0 ∷ field f i 3 ∷ field f i 4 ∷ field f i 5 ∷ field f i 6 ∷ []
-  pub serial : value .serial ≡ serialOf f i

@@ -7,13 +7,13 @@ use lib.ListN.{length}
 use Rattle.meaning.specs.Lists.{if}
 use Rattle.text.specs.Ascii.{ascii}
 use Rattle.text.specs.Lines.{decimal}
-use Rattle.file.specs.Format.{E, R, N, lengthFor, field, serialOf, fromOf, toOf}
+use Rattle.file.specs.Format.{E, R, N, lengthFor, field, fromOf, toOf}
 use Rattle.file.specs.Reading.{between, uses}
 use Rattle.sentences.specs.Words.{_then_, firstOf, counted, noEntity, noName, Saying, _says_, said}
 
--- a length in bytes; no accepted file is longer than 5,126
+-- a length in bytes; no accepted file is longer than 4,102
 abbrev pub sizeText : ℕ → List ℕ
-sizeText n = if (ltb 5126 n) (ascii "more than 5126 bytes") (counted n (ascii " byte") (ascii " bytes"))
+sizeText n = if (ltb 4102 n) (ascii "more than 4102 bytes") (counted n (ascii " byte") (ascii " bytes"))
 
 -- 1
 abbrev pub shortText : List ℕ → List ℕ
@@ -32,7 +32,7 @@ lengthText f =
     ascii "the file has " then sizeText (length f) then ascii ", "
     then counted (N f) (ascii " credential takes ") (ascii " credentials take ") then decimal (lengthFor (N f))
 
--- 4 to 7 and 17 are said of credential i
+-- 4 to 7 are said of credential i
 abbrev pub ofCredential : ℕ → List ℕ → List ℕ
 ofCredential i what = ascii "credential " then decimal i then ascii ": " then what
 
@@ -63,15 +63,7 @@ unusedText f i =
 
 -- 7
 abbrev pub periodText : List ℕ → ℕ → List ℕ
-periodText f i =
-    if (ltb (toOf f i) (fromOf f i)) (ascii "from " then decimal (fromOf f i) then ascii " is above to " then decimal (toOf f i))
-    (ascii "to " then decimal (toOf f i) then ascii ", the last minute is 4294967294")
-
--- 17
-abbrev pub serialText : List ℕ → ℕ → List ℕ
-serialText f i =
-    if (eqb (serialOf f i) 0) (ascii "the serial is 0")
-    (ascii "serial " then decimal (serialOf f i) then ascii ", an earlier credential has it")
+periodText f i = ascii "from " then decimal (fromOf f i) then ascii " is not below to " then decimal (toOf f i)
 
 -- the refusals of a file at a place, and 10 of its table
 abbrev pub fileSayings : List ℕ → ℕ → List Saying
@@ -85,7 +77,6 @@ fileSayings f i =
     ∷ (7 says ofCredential i (periodText f i))
     ∷ (8 says ascii "the periods have more than 64 ends")
     ∷ (10 says ascii "more than 1024 memberships")
-    ∷ (17 says ofCredential i (serialText f i))
     ∷ []
 
 -- What is said of a refusal of the file f, by its number and place; and the line that says it.

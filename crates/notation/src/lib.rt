@@ -1,41 +1,29 @@
 // Credentials as lines of text, in document 01's notation (UTF-8). A function that writes a line returns how many bytes it has, and leaves
 // the bytes after it as they were.
 ghost use mathlib.Core.List.{_++_};
-ghost use mathlib.Core.Path.{_≡_};
-ghost use Prim.Native.Nat.{_+_, _-_, _≤_};
+ghost use Prim.Native.Nat.{_+_, _≤_};
 ghost use lib.ListN.{length};
 ghost use Rattle.text.specs.Lines.{Put, Lined};
-ghost use Rattle.notation.specs.Notation.{roleText, linkedText, bodyText, statementText, serialText, periodText, credentialLine};
+ghost use Rattle.notation.specs.Notation.{roleText, linkedText, bodyText, statementText, periodText, credentialLine};
 use file::Body;
 use file::Credential;
 use file::Period;
 use file::Role;
 use file::RoleName;
 
-// Position, #serial, head, body, period.
+// Position, head, body, period.
 pub fn credential_line(out: &mut [u8; 128], position: u32, c: Credential) -> usize
     ensures { λ r. ⌜ Lined (now (out .entry)) (now (out .exit)) r (credentialLine position c) ⌝ }
 {
     let body = c.body;
     let colon = text::put_field(out, 0, position, b':');
-    let serial_at = text::put_byte(out, colon, b' ');
-    let head_at = put_serial(out, serial_at, c.serial);
+    let head_at = text::put_byte(out, colon, b' ');
     let comma = put_statement(out, head_at, c.head, body);
     let from_at = text::put_bytes(out, comma, b", ");
     put_period(out, from_at, c.period)
 }
 
 // Each private function writes at `at` and returns the next place. What stands before `at` and from that place on stays.
-
-// #serial, a comma and a space
-fn put_serial(out: &mut [u8], at: usize, serial: u32) -> usize
-    requires { ⌜ at + 13 ≤ length (now out) ⌝ }
-    ensures { λ r. ⌜ Put (now (out .entry)) (now (out .exit)) at r 13 (serialText serial) ⌝ }
-{
-    let number_at = text::put_byte(out, at, b'#');
-    let comma = text::put_field(out, number_at, serial, b',');
-    text::put_byte(out, comma, b' ')
-}
 
 // A.r
 fn put_role(out: &mut [u8], at: usize, role: Role) -> usize
@@ -90,24 +78,12 @@ fn put_statement(out: &mut [u8], at: usize, head: Role, body: Body) -> usize
     put_body(out, body_at, body)
 }
 
-// The last minute of a period that has minutes.
-fn last_of(period: Period) -> u32
-    ensures { λ r. ⌜ r ≡ period .until - 1 ⌝ }
-{
-    if period.until == 0 {
-        0
-    } else {
-        period.until - 1
-    }
-}
-
 // from..to
 fn put_period(out: &mut [u8], at: usize, period: Period) -> usize
     requires { ⌜ at + 23 ≤ length (now out) ⌝ }
     ensures { λ r. ⌜ Put (now (out .entry)) (now (out .exit)) at r 23 (periodText period) ⌝ }
 {
-    let to = last_of(period);
     let dot = text::put_field(out, at, period.from, b'.');
     let to_at = text::put_byte(out, dot, b'.');
-    text::put_field(out, to_at, to, b'\n')
+    text::put_field(out, to_at, period.until, b'\n')
 }

@@ -14,7 +14,7 @@ use Rattle.meaning.proofs.Claims.{members-exact, proofs-and-rules}
 use Rattle.file.specs.Refusals.{RefusalRow, Outcome, done, refused, first}
 use Rattle.file.specs.Format.{credentials}
 use Rattle.file.proofs.Claims.{within-format}
-use Rattle.file.proofs.Refusals.{pass, give, not-of-file, by-test, less}
+use Rattle.file.proofs.Refusals.{pass, give, refused-low, by-test, less}
 use Rattle.asking.specs.Asking.{Request, StepLists, size, Askable}
 use Rattle.asking.specs.Conditions.{RefusedRequest, file, lengths, numbers, minute}
 use Rattle.asking.proofs.Asked.{askable-passes}
@@ -22,9 +22,9 @@ use Rattle.asking.proofs.Requests.{RequestVerdict, request-verdict, call-refuse
 use Rattle.querying.specs.Querying.{Counts, counts, minuteFullRow, noneRow, levelFor, replyWith, QueryEnding, querying, Queried}
 use Rattle.querying.specs.Conditions.{membersFor, RefusedQuery, request, full, none}
 
--- a request's refusals are neither 10 nor 13, which the query itself gives
+-- the numbers of a request's refusals
 request-low : {f : List ℕ} {q : Request} {t : StepLists} {n p : ℕ} → RefusedRequest f q t n p → (n ≡ 10 → ⊥) × (n ≡ 13 → ⊥)
-request-low {f} (file r) = (not-of-file f r 10 tt, not-of-file f r 13 tt)
+request-low {f} (file r) = let l = refused-low f r in ((λ e. omega arith), λ e. omega arith)
 request-low (lengths c h) = ((λ e. omega arith), λ e. omega arith)
 request-low (numbers c o h) = ((λ e. omega arith), λ e. omega arith)
 request-low (minute c o n m) = ((λ e. omega arith), λ e. omega arith)

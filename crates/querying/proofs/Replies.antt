@@ -108,7 +108,7 @@ module _ (f : List ℕ) (q : Request) (t : StepLists) where
         no-10 = asked-low f q t r e h .2
 
         no-13 : r .number ≡ 13 → ⊥
-        no-13 = asked-low f q t r e h .3
+        no-13 z = omega (arith, asked-low f q t r e h .1)
 
     -- the search was by the credentials of the file
     module _ (judged : r .number ≡ 0) {cs : List Credential} (means : cs ≡ credentials f) {keys notes : List ℕ} {g : Found} (finds : Finds cs (q .minute) (q .role) (q .set) (size t) keys notes g) (small : q .set < 2 ^ 32) where

@@ -1,5 +1,4 @@
--- `decode_all` meets its contract. The invariant: the refusal of all rows is that of the rows from credential i on, the credentials below i are stored, and none
--- of their serials is above top.
+-- `decode_all` meets its contract. The invariant: the refusal of all rows is that of the rows from credential i on, and the credentials below i are stored.
 use mathlib.Core.Path.{_≡_, sym, ap, _∙_}
 use Prim.Native.Nat.{ℕ, _-_, _≤_, _<_}
 use native.Mathlib.Omega.{arith}
@@ -8,26 +7,25 @@ use Rattle.file.specs.Format.{N}
 use Rattle.file.specs.Reading.{credentialsRows}
 use Rattle.file.specs.Values.{firstRefusal}
 use Rattle.file.proofs.Rows.{rowsFrom, rows-start, rows-end, rows-stopped, rows-passed}
-use Rattle.serials.specs.Serials.{Topped}
 use Rattle.policy.specs.Steps.{Worded}
 use Rattle.policy.proofs.decode_all.Statement.{statement}
 use Rattle.policy.proofs.decode_all.Tie as tie
 
 abbrev Inv-loop : tie.InvT-loop
-Inv-loop policy₀ file h n top₀ i₀ policy top i =
-    (i ≤ N file) × ((firstRefusal (credentialsRows file) ≡ firstRefusal (rowsFrom file i)) × ((j : ℕ) → j < i → Worded file policy j)) × Topped file i top
+Inv-loop policy₀ file h n i₀ policy i =
+    (i ≤ N file) × ((firstRefusal (credentialsRows file) ≡ firstRefusal (rowsFrom file i)) × ((j : ℕ) → j < i → Worded file policy j))
 
 abbrev μ-loop : tie.MeasureT-loop
-μ-loop policy₀ file h n top₀ i₀ policy top i = N file - i
+μ-loop policy₀ file h n i₀ policy i = N file - i
 
 loop-holds : tie.Need-loop-holds Inv-loop μ-loop
-loop-holds c = (omega arith, (rows-start (c .before .args .file .now), λ j l. absurd (omega arith)), λ j l. absurd (omega arith))
+loop-holds c = (omega arith, (rows-start (c .before .args .file .now), λ j l. absurd (omega arith)))
 
 decode-one-requires : tie.Need-decode-one-requires Inv-loop μ-loop
-decode-one-requires c κs = ((c .before .before .before .before .pre, omega arith), c .before .before .loop .inv .2)
+decode-one-requires c κs = (c .before .before .before .before .pre, omega arith)
 
-cast-t10 : tie.Need-cast-t10 Inv-loop μ-loop
-cast-t10 c = omega arith
+cast-t9 : tie.Need-cast-t9 Inv-loop μ-loop
+cast-t9 c = omega arith
 
 returns : tie.Need-returns Inv-loop μ-loop
 returns c =
@@ -39,9 +37,6 @@ returns c =
       each = λ z. absurd (c .if1 .taken z);
     }
 
-top-with-requires : tie.Need-top-with-requires Inv-loop μ-loop
-top-with-requires c κs = (omega arith, c .before .before .before .before .loop .inv .2)
-
 add-i : tie.Need-add-i Inv-loop μ-loop
 add-i c = omega arith
 
@@ -50,15 +45,14 @@ loop-less c = omega arith
 
 loop-again : tie.Need-loop-again Inv-loop μ-loop
 loop-again c =
-    let f = c .before .before .before .before .before .before .before .args .file .now in
-    let l = c .before .before .before .before .before .loop in
-    let e = c .before .before .decode-one .ensures in (
+    let f = c .before .before .before .before .before .before .args .file .now in
+    let l = c .before .before .before .before .loop in
+    let e = c .before .decode-one .ensures in (
       omega arith,
       (
-        l .inv .1 .0 ∙ rows-passed f (l .i) (omega arith) (sym (e .number) ∙ c .before .if1 .left),
-        below-more _ _ (λ j m. e .kept j m (l .inv .1 .1 j m)) (e .stored (c .before .if1 .left)),
+        l .inv .1 .0 ∙ rows-passed f (l .i) (omega arith) (sym (e .number) ∙ c .if1 .left),
+        below-more _ _ (λ j m. e .kept j m (l .inv .1 .1 j m)) (e .stored (c .if1 .left)),
       ),
-      c .top-with .ensures,
     )
 
 returns-2 : tie.Need-returns-2 Inv-loop μ-loop
@@ -75,9 +69,8 @@ decode-all-spec =
     μ-loop
     loop-holds
     decode-one-requires
-    cast-t10
+    cast-t9
     returns
-    top-with-requires
     add-i
     loop-less
     loop-again

@@ -1,3 +1,0 @@
-pub mod OldFormat
-pub mod OldReading
-pub mod Samples
