@@ -227,6 +227,7 @@ static void agree(void)
         agree_querying(role, set, minute);
         memcpy(&minute, period + 4, 4);
         agree_querying(role, set, minute);
+        agree_querying(role, set, minute + 1);
     }
 }
 

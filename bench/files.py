@@ -5,6 +5,7 @@ import random
 import struct
 import sys
 
+# A period is two ends here: its first minute, and the first that it no longer covers.
 ALWAYS = (0, 1_000_000)
 SET, INCLUSION, LINK, MEET, UNION, APART = range(6)
 
@@ -52,8 +53,9 @@ class File:
     def bytes(self):
         assert len(self.lines) <= 256, len(self.lines)
         head = struct.pack('<3H', self.entities, self.names, len(self.lines))
+        # In a file `to` is the last minute that is covered.
         return (head + b''.join(bytes(x[:7]) + b'\0' for x in self.lines)
-                + b''.join(struct.pack('<2I', *x[7:]) for x in self.lines))
+                + b''.join(struct.pack('<2I', start, stop - 1) for *_, start, stop in self.lines))
 
 
 # ---- honest files ----

@@ -29,7 +29,7 @@ gives(4, Left, Right, Set, Spans) :- holds(Left, X, A), holds(Right, Y, B), Set 
 gives(5, Left, Right, Set, Spans) :-
     holds(Left, X, A), holds(Right, Y, B), X /\ Y =:= 0, Set is X \/ Y, Spans is A /\ B.
 
-% The file: sizes, statements, periods.
+% The file: sizes, statements, periods. A period is kept half-open: it covers `to`, so it stops at to + 1.
 number_at(Bytes, At, Width, N) :-
     findall(B, (between(1, Width, I), J is At + Width - I, nth(J, Bytes, B)), Bs),
     foldl([B, X, Y]>>(Y is X * 256 + B), Bs, 0, N).
@@ -41,11 +41,11 @@ load(Path, When) :-
     Bytes =.. [bytes|Codes],
     number_at(Bytes, 4, 2, N),
     Last is N - 1,
-    findall(From-To,
+    findall(From-Until,
             ( between(0, Last, I), A is 6 + 8 * N + 8 * I, B is A + 4,
-              number_at(Bytes, A, 4, From), number_at(Bytes, B, 4, To) ),
+              number_at(Bytes, A, 4, From), number_at(Bytes, B, 4, To), Until is To + 1 ),
             Periods),
-    findall(E, (member(F-T, Periods), member(E, [F, T])), Es),
+    findall(E, (member(F-U, Periods), member(E, [F, U])), Es),
     sort(Es, Ends),
     forall(nth0(I, Periods, Period), load_one(Bytes, I, Period, Ends, When)).
 
@@ -59,10 +59,10 @@ load_one(Bytes, I, Period, Ends, When) :-
     ;   retract(states(Head, Kind, Left, Right, Before)) -> V is Before \/ Spans, assertz(states(Head, Kind, Left, Right, V))
     ;   assertz(states(Head, Kind, Left, Right, Spans)) ).
 
-spans(spans, From-To, Ends, Spans) :- !,
-    nth0(A, Ends, From), nth0(B, Ends, To), Spans is (1 << B) - (1 << A).
-spans(Minute, From-To, _, Spans) :-
-    (   From =< Minute, Minute < To -> Spans = 1 ; Spans = 0 ).
+spans(spans, From-Until, Ends, Spans) :- !,
+    nth0(A, Ends, From), nth0(B, Ends, Until), Spans is (1 << B) - (1 << A).
+spans(Minute, From-Until, _, Spans) :-
+    (   From =< Minute, Minute < Until -> Spans = 1 ; Spans = 0 ).
 
 % Every head once, then the time of one evaluation from empty tables.
 all(Count) :-

@@ -1,5 +1,5 @@
-/* A caller that knows the header alone: makes each call and uses each inline function, and holds every reply and list against what document 01 says of
-   set P, worked out by hand. Prints the line of each expectation that fails, then how many there were. C99 and C++ both compile it. */
+/* A caller that knows the header alone: makes each call and uses each inline function, and holds every reply and list against what documents 01 and 02 say
+   of set P, worked out by hand. Prints the line of each expectation that fails, then how many there were. C99 and C++ both compile it. */
 #include <inttypes.h>
 #include <stdio.h>
 #include <string.h>
@@ -141,10 +141,10 @@ static void texts(void)
 static void names(void)
 {
     EXPECT(RTT_FILE_TOO_SHORT == 1 && RTT_SIZES_OUT_OF_RANGE == 2 && RTT_WRONG_FILE_LENGTH == 3 && RTT_UNKNOWN_KIND == 4);
-    EXPECT(RTT_CREDENTIAL_OUT_OF_RANGE == 5 && RTT_BYTE_NOT_ZERO == 6 && RTT_EMPTY_PERIOD == 7 && RTT_TOO_MANY_ENDS == 8);
+    EXPECT(RTT_CREDENTIAL_OUT_OF_RANGE == 5 && RTT_BYTE_NOT_ZERO == 6 && RTT_WRONG_PERIOD == 7 && RTT_TOO_MANY_ENDS == 8);
     EXPECT(RTT_WRONG_LISTS == 9 && RTT_TOO_MANY_MEMBERSHIPS == 10 && RTT_REQUEST_OUT_OF_RANGE == 11 && RTT_NOT_A_MINUTE == 12);
     EXPECT(RTT_NO_PROOF == 13 && RTT_WRONG_STEP_COUNT == 14 && RTT_WRONG_STEP == 15 && RTT_OTHER_MEMBERSHIP == 16);
-    EXPECT(rtt_number(query(P, sizeof P, rtt_role(0, 1), 6, 18, L)) == RTT_NO_PROOF);
+    EXPECT(rtt_number(query(P, sizeof P, rtt_role(0, 1), 6, 19, L)) == RTT_NO_PROOF);
     switch (rtt_number(refusal(15, 2))) {
     case RTT_WRONG_STEP:
         break;
@@ -169,7 +169,7 @@ static void entries(void)
     EXPECT(rtt_entry64(bytes + 1, 0) == UINT64_C(0x0807060504030201) && rtt_entry64(bytes + 1, 1) == UINT64_MAX);
 }
 
-/* 1.2 <- 0 in 0..10. The sum 0 * 32 + 34 is this role; 0.34 is none. */
+/* 1.2 <- 0 from minute 0 to 10. The sum 0 * 32 + 34 is this role; 0.34 is none. */
 static void roles(void)
 {
     static const uint8_t file[] = {2, 0, 3, 0, 1, 0, 0, 1, 2, 0, 0, 0, 0, 0, 0, 0, 0, 0, 10, 0, 0, 0};
@@ -223,15 +223,17 @@ static void querying(void)
     EXPECT(is_k1(4 * L));
     EXPECT(query(P, sizeof P, release, 6, 17, 3) == 3 + 2 * 65536);
     EXPECT(is_k1(12));
-    EXPECT(query(P, sizeof P, release, 6, 18, L) == refusal(13, 0));
+    EXPECT(query(P, sizeof P, release, 6, 18, L) == 3 + 2 * 65536);
+    EXPECT(is_k1(4 * L));
+    EXPECT(query(P, sizeof P, release, 6, 19, L) == refusal(13, 0));
     EXPECT(zero(&a, 4 * L) && zero(&b, 4 * L) && zero(&c, 4 * L) && zero(&d, 4 * L));
     EXPECT(query(P, sizeof P, release, 6, 14, L) == refusal(13, 0));
     EXPECT(query(P, sizeof P, release, 2, 10, L) == refusal(13, 0));
     EXPECT(query(P, sizeof P, release, 7, 15, L) == refusal(13, 0));
     EXPECT(query(P, sizeof P, release, 6, 4294967294u, L) == refusal(13, 0));
-    EXPECT(query(P, sizeof P, reviewer, 2, 19, 2) == 1 + 1 * 65536);
+    EXPECT(query(P, sizeof P, reviewer, 2, 20, 2) == 1 + 1 * 65536);
     EXPECT(has(&a, 8, 1, nothing) && has(&b, 8, 1, nothing) && has(&c, 8, 1, nothing) && has(&d, 8, 1, one));
-    EXPECT(query(P, sizeof P, reviewer, 2, 20, L) == refusal(13, 0));
+    EXPECT(query(P, sizeof P, reviewer, 2, 21, L) == refusal(13, 0));
     EXPECT(query(P, sizeof P, release, 6, 15, 2) == refusal(10, 0));
     EXPECT(zero(&a, 8) && zero(&b, 8) && zero(&c, 8) && zero(&d, 8));
     EXPECT(query(P, sizeof P, release, 0, 15, L) == refusal(11, 0));
@@ -250,7 +252,9 @@ static void checking(void)
     uint32_t release = rtt_role(0, 1), reviewer = rtt_role(0, 0);
     EXPECT(check(P, sizeof P, release, 6, 15, 3) == 2);
     EXPECT(check(P, sizeof P, release, 6, 17, 3) == 2);
-    EXPECT(check(P, sizeof P, release, 6, 18, 3) == refusal(15, 2));
+    EXPECT(check(P, sizeof P, release, 6, 18, 3) == 2);
+    EXPECT(check(P, sizeof P, release, 6, 19, 3) == refusal(15, 2));
+    EXPECT(check(P, sizeof P, release, 6, 21, 3) == refusal(15, 0));
     EXPECT(check(P, sizeof P, release, 6, 14, 3) == refusal(15, 1));
     EXPECT(check(P, sizeof P, release, 6, 9, 3) == refusal(15, 0));
     EXPECT(check(P, sizeof P, reviewer, 2, 15, 1) == 1);
@@ -272,7 +276,7 @@ static void checking(void)
 
 static void listing_ends(void)
 {
-    static const uint32_t in_ends[] = {0, 10, 15, 18, 20, 30};
+    static const uint32_t in_ends[] = {0, 10, 15, 19, 21, 31};
     EXPECT(ends(P, sizeof P, RTT_ENDS_BYTES) == 6);
     EXPECT(has(&a, RTT_ENDS_BYTES, 6, in_ends));
     EXPECT(ends(P, sizeof P, 252) == refusal(9, 0) && untouched(&a));
@@ -282,11 +286,11 @@ static void listing_ends(void)
     EXPECT(rtt_ends(P, sizeof P, NULL, 0) == refusal(9, 0));
 }
 
-/* Spans 0 to 4 of P are 0..10, 10..15, 15..18, 18..20 and 20..30. */
+/* Spans 0 to 4 of P begin at 0, 10, 15, 19 and 21, and the last stops before 31. */
 static void listing_intervals(void)
 {
-    static const uint32_t of_14[] = {10, 20}, of_28[] = {15, 30}, of_4[] = {15, 18}, of_31[] = {0, 30};
-    static const uint32_t of_5[] = {0, 10, 15, 18}, of_21[] = {0, 10, 15, 18, 20, 30}, of_27[] = {0, 15, 18, 30};
+    static const uint32_t of_14[] = {10, 21}, of_28[] = {15, 31}, of_4[] = {15, 19}, of_31[] = {0, 31};
+    static const uint32_t of_5[] = {0, 10, 15, 19}, of_21[] = {0, 10, 15, 19, 21, 31}, of_27[] = {0, 15, 19, 31};
     size_t whole = RTT_BOUNDS_BYTES;
     EXPECT(intervals(P, sizeof P, 14, whole) == 1 && has(&a, whole, 2, of_14));
     EXPECT(intervals(P, sizeof P, 28, whole) == 1 && has(&a, whole, 2, of_28));
@@ -309,8 +313,8 @@ static void releasing(void)
 {
     uint32_t release = rtt_role(0, 1);
     EXPECT(rtt_may_release(P, sizeof P, release, 6, 15) == 1);
-    EXPECT(rtt_may_release(P, sizeof P, release, 6, 17) == 1);
-    EXPECT(rtt_may_release(P, sizeof P, release, 6, 18) == 0);
+    EXPECT(rtt_may_release(P, sizeof P, release, 6, 18) == 1);
+    EXPECT(rtt_may_release(P, sizeof P, release, 6, 19) == 0);
     EXPECT(rtt_may_release(P, sizeof P, release, 6, 14) == 0);
     EXPECT(rtt_may_release(P, sizeof P, release, 6, 4294967295u) == 0);
     EXPECT(rtt_may_release(P, sizeof P, release, 2, 15) == 0);
@@ -383,19 +387,65 @@ static void refused_files(void)
     changed(__LINE__, 24, 2, refusal(5, 2));
     changed(__LINE__, 11, 1, refusal(6, 0));
     changed(__LINE__, 29, 1, refusal(6, 2));
-    changed(__LINE__, 30, 20, refusal(7, 0));
-    changed(__LINE__, 42, 15, refusal(7, 1));
+    changed(__LINE__, 30, 21, refusal(7, 0));
+    changed(__LINE__, 42, 14, refusal(7, 1));
 }
 
-/* 0.0 <- 0 in 33 periods 2i..2i+1: 66 ends. */
+/* 0.0 <- 0 in one period. */
+static const uint8_t *in_period(uint32_t from, uint32_t to)
+{
+    static uint8_t file[22] = {1, 0, 1, 0, 1, 0};
+    for (int i = 0; i < 4; i++) {
+        file[14 + i] = (uint8_t)(from >> (8 * i));
+        file[18 + i] = (uint8_t)(to >> (8 * i));
+    }
+    return file;
+}
+
+/* The period's minutes are the membership's, which an interval gives half-open; the minutes beside them are not. */
+static void covers(int line, uint32_t from, uint32_t to)
+{
+    const uint8_t *file = in_period(from, to);
+    const uint32_t bounds[] = {from, to + 1};
+    expect(line, complete(file, 22, 1) == 1 && rtt_entry64(c.bytes, 0) == 1, "one membership in one span");
+    expect(line, ends(file, 22, RTT_ENDS_BYTES) == 2 && has(&a, RTT_ENDS_BYTES, 2, bounds), "from and to + 1 are the ends");
+    expect(line, intervals(file, 22, 1, RTT_BOUNDS_BYTES) == 1 && has(&a, RTT_BOUNDS_BYTES, 2, bounds), "one interval");
+    expect(line, query(file, 22, 0, 1, from, 1) == 1 + 1 * 65536, "from is covered");
+    expect(line, query(file, 22, 0, 1, to, 1) == 1 + 1 * 65536, "to is covered");
+    expect(line, from == 0 || query(file, 22, 0, 1, from - 1, 1) == refusal(13, 0), "the minute before is not");
+    expect(line, query(file, 22, 0, 1, to + 1, 1) == refusal(to == 4294967294u ? 12 : 13, 0), "nor is the one after");
+    expect(line, rtt_may_release(file, 22, 0, 1, to) == 1 && rtt_may_release(file, 22, 0, 1, to + 1) == 0, "release up to the last minute");
+}
+
+static void periods(void)
+{
+    covers(__LINE__, 10, 20);
+    covers(__LINE__, 9, 9);
+    covers(__LINE__, 0, 0);
+    covers(__LINE__, 0, 4294967294u);
+    covers(__LINE__, 4294967294u, 4294967294u);
+    refused_by_all(__LINE__, in_period(9, 8), 22, refusal(7, 0));
+    refused_by_all(__LINE__, in_period(4294967294u, 0), 22, refusal(7, 0));
+    refused_by_all(__LINE__, in_period(4294967295u, 4294967294u), 22, refusal(7, 0));
+    refused_by_all(__LINE__, in_period(0, 4294967295u), 22, refusal(7, 0));
+    refused_by_all(__LINE__, in_period(4294967295u, 4294967295u), 22, refusal(7, 0));
+}
+
+/* 0.0 <- 0 in periods of one minute each, 0, 2, 4 and so on: two ends each, so that 32 are accepted and 33 refused. */
 static void too_many_ends(void)
 {
-    uint8_t file[6 + 16 * 33] = {1, 0, 1, 0, 33, 0};
-    for (uint8_t i = 0; i < 33; i++) {
-        file[6 + 8 * 33 + 8 * i] = (uint8_t)(2 * i);
-        file[6 + 8 * 33 + 8 * i + 4] = (uint8_t)(2 * i + 1);
+    uint8_t file[6 + 16 * 33];
+    for (uint8_t n = 32; n <= 33; n++) {
+        const uint8_t sizes[] = {1, 0, 1, 0, n, 0};
+        memset(file, 0, sizeof file);
+        memcpy(file, sizes, sizeof sizes);
+        for (size_t i = 0; i < n; i++)
+            file[6 + 8 * (n + i)] = file[6 + 8 * (n + i) + 4] = (uint8_t)(2 * i);
+        if (n == 32)
+            EXPECT(ends(file, 6 + 16 * 32, RTT_ENDS_BYTES) == 64);
+        else
+            refused_by_all(__LINE__, file, sizeof file, refusal(8, 0));
     }
-    refused_by_all(__LINE__, file, sizeof file, refusal(8, 0));
 }
 
 int main(void)
@@ -414,6 +464,7 @@ int main(void)
     releasing();
     empty();
     refused_files();
+    periods();
     too_many_ends();
     printf("%u expectations, %u failed\n", expected, failed);
     return failed != 0;

@@ -1,4 +1,5 @@
-/* Document 01's set P: 0.0 <- 1 in 10..20, 0.0 <- 2 in 15..30, and 0.1 gets the unions of disjoint sets of 0.0 in 0..18. */
+/* Document 01's set P: 0.0 <- 1 from minute 10 to 20, 0.0 <- 2 from 15 to 30, and 0.1 gets the unions of disjoint sets of 0.0 from 0 to 18, each of
+   these minutes included. */
 #include <stdint.h>
 
 static const uint8_t P[] = {

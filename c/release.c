@@ -1,6 +1,6 @@
 /* The README's example: somebody brings a proof that Ada and Cara may release a sheet. Reads the office's credentials file on standard input, checks the
-   proof for them on Thursday at 10:00 and on Friday at 18:00, and for Ada and Ben, and prints what it got. Then asks, without a proof at hand, whether
-   Ada and Cara may release on Thursday, and whether all three may. */
+   proof for them on Thursday at 10:00 and on Friday at 17:59 and 18:00, and for Ada and Ben, and prints what it got. Then asks, without a proof at hand,
+   whether Ada and Cara may release on Thursday, and whether all three may. */
 #include <inttypes.h>
 #include <stdio.h>
 
@@ -43,6 +43,7 @@ int main(void)
     uint32_t thursday = 3 * 1440 + 10 * 60, friday = 4 * 1440 + 18 * 60;
     uint32_t ada = 1u << ADA, ben = 1u << BEN, cara = 1u << CARA;
     print("Ada and Cara, Thursday 10:00", check(file, length, ada | cara, thursday));
+    print("Ada and Cara, Friday 17:59", check(file, length, ada | cara, friday - 1));
     print("Ada and Cara, Friday 18:00", check(file, length, ada | cara, friday));
     print("Ada and Ben, Thursday 10:00", check(file, length, ada | ben, thursday));
     ask("Ada and Cara, Thursday 10:00", file, length, ada | cara, thursday);

@@ -1,5 +1,5 @@
 /* Lists the ends of document 01's set P and completes it, with the minutes of each membership; asks for a proof of case K1 (0.1 {1,2} at minute 15)
-   and checks it; then K3 (at minute 18), which has none, and a file that lacks a byte. Prints what it got. */
+   and checks it; then at minute 19, after the last one that has a proof, and a file that lacks a byte. Prints what it got. */
 #include <inttypes.h>
 #include <stdio.h>
 
@@ -76,7 +76,7 @@ int main(void)
     ends(P, sizeof P);
     complete(P, sizeof P);
     prove(P, sizeof P, rtt_role(0, 1), 1u << 1 | 1u << 2, 15);
-    prove(P, sizeof P, rtt_role(0, 1), 1u << 1 | 1u << 2, 18);
+    prove(P, sizeof P, rtt_role(0, 1), 1u << 1 | 1u << 2, 19);
     complete(P, sizeof P - 1);
     return 0;
 }

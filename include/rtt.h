@@ -38,9 +38,10 @@
 
    Ends and spans
 
-   The ends of a file are the distinct from and to values of its periods, ascending; end 0 is the lowest. Span i runs
-   from end i up to, not including, end i + 1. So n ends make n - 1 spans, and no ends make none. rtt_ends writes the
-   ends, rtt_intervals turns spans into minutes.
+   A period of the file covers minute m when from <= m and m <= to. The ends of a file are the distinct from values and
+   to values plus one of its periods, ascending; end 0 is the lowest. Span i runs from end i up to, not including, end
+   i + 1. So n ends make n - 1 spans, and no ends make none. rtt_ends writes the ends, rtt_intervals turns spans into
+   minutes.
 
    Replies
 
@@ -69,7 +70,7 @@
         5    its issuer or a used entity is not below E, or        credential  all
              its name or a used name is not below R
         6    an unused byte or byte 7 is not zero                  credential  all
-        7    from is not below to                                  credential  all
+        7    from is above to, or to is 4,294,967,295              credential  all
         8    the periods have over 64 ends                         0           all
         9    a list is not whole entries, the lists are not of     0           complete, query, check
              one length, or L is outside 1 to 1,024
@@ -111,8 +112,8 @@ extern "C" {
 
 /* The version of this interface; the pkg-config file and the manual pages take it from here. The number is
    major * 10,000 + minor * 100 + patch. */
-#define RTT_VERSION "1.1.2"
-#define RTT_VERSION_NUMBER 10102
+#define RTT_VERSION "2.0.0"
+#define RTT_VERSION_NUMBER 20000
 
 /* Bytes of stack that are enough for any call, beside what the caller itself uses. Measured, no call takes more than
 
@@ -147,7 +148,7 @@ enum rtt_refusal {
     RTT_UNKNOWN_KIND = 4,
     RTT_CREDENTIAL_OUT_OF_RANGE = 5,
     RTT_BYTE_NOT_ZERO = 6,
-    RTT_EMPTY_PERIOD = 7,
+    RTT_WRONG_PERIOD = 7,
     RTT_TOO_MANY_ENDS = 8,
     RTT_WRONG_LISTS = 9,
     RTT_TOO_MANY_MEMBERSHIPS = 10,
@@ -226,7 +227,7 @@ uint64_t rtt_ends(const uint8_t *file, size_t file_length,
    file     the bytes of a credentials file, read
    spans    bit i stands for span i, as in the list that rtt_complete writes
    bounds   RTT_BOUNDS_BYTES bytes, 4 an entry, written: entries 2 * i and 2 * i + 1 are from and to of interval i,
-            which covers minute m when from <= m and m < to
+            which covers minute m when from <= m and m < to: unlike a period of the file, it does not cover `to`
 
    Returns the count of intervals, at most 32. They ascend and never touch, since spans that touch are joined; every
    entry after the last interval is zero. Refuses with 1 to 9 and 11.  */
@@ -256,7 +257,7 @@ static inline const char *rtt_refusal_text(uint64_t number)
     case RTT_UNKNOWN_KIND: return "a credential's kind is above 5";
     case RTT_CREDENTIAL_OUT_OF_RANGE: return "a credential has an entity or a role name that is out of range";
     case RTT_BYTE_NOT_ZERO: return "a credential's unused byte is not zero";
-    case RTT_EMPTY_PERIOD: return "a credential's period does not begin before it ends";
+    case RTT_WRONG_PERIOD: return "a credential's period ends before it begins or after the last minute";
     case RTT_TOO_MANY_ENDS: return "the periods have over 64 ends";
     case RTT_WRONG_LISTS: return "a lent list has a wrong length";
     case RTT_TOO_MANY_MEMBERSHIPS: return "there are more memberships than the lists have entries";

@@ -1,4 +1,4 @@
-//! Document 01's cases, with the results that the document states.
+//! Document 01's cases, with the results that it states, as request One of document 02 changes them.
 
 use crate::calls::Call;
 use crate::explore::{completed, handed_out, queried};
@@ -73,7 +73,7 @@ fn tables() -> Vec<(&'static str, Vec<u8>, Rows)> {
     vec![
         ("P", set_p(), vec![(0, 2, 14), (0, 4, 28), (1, 6, 4)]),
         ("K7", k7(), vec![]),
-        ("K8", k8(), vec![(0, 4, 3), (32, 4, 3)]),
+        ("K8", k8(), vec![(0, 4, 7), (32, 4, 7)]),
         ("K9", k9(), k9_rows),
         ("K11", Draft::new(1, 1).bytes(), vec![]),
     ]
@@ -91,7 +91,8 @@ pub fn run(c: &mut Comparison, random: &mut Random, count: usize) -> Compared<()
         for (name, file, set, minute, proof) in [
             ("K1", set_p(), 6, 15, Some((2, 3))),
             ("K2", set_p(), 6, 17, Some((2, 3))),
-            ("K3", set_p(), 6, 18, None),
+            ("K3", set_p(), 6, 18, Some((2, 3))),
+            ("K3, minute 19", set_p(), 6, 19, None),
             ("K4", set_p(), 6, 14, None),
             ("K5", set_p_union(), 2, 10, Some((2, 2))),
             ("K6", set_p(), 2, 10, None),
@@ -109,13 +110,14 @@ pub fn run(c: &mut Comparison, random: &mut Random, count: usize) -> Compared<()
     Ok(())
 }
 
-/// The ends that the document states, and the intervals of spans that `members` prints or a case has; 11 where there is no span.
+/// The ends that document 02's request One gives, and the intervals of spans that `members` prints or a case has; 11 where there is no span.
 fn ends_of_cases(c: &mut Comparison, random: &Random) -> Compared<()> {
     let random = &mut random.clone();
-    let p: &[(u64, &[u32])] = &[(14, &[10, 20]), (28, &[15, 30]), (4, &[15, 18]), (0, &[]), (21, &[0, 10, 15, 18, 20, 30])];
+    let p: &[(u64, &[u32])] = &[(14, &[10, 21]), (28, &[15, 31]), (4, &[15, 19]), (0, &[]), (21, &[0, 10, 15, 19, 21, 31])];
+    let k8_intervals: &[(u64, &[u32])] = &[(7, &[0, 11]), (1, &[0, 5]), (2, &[5, 6]), (4, &[6, 11]), (5, &[0, 5, 6, 11])];
     for (name, file, ends, intervals) in [
-        ("P, ends", set_p(), &[0, 10, 15, 18, 20, 30][..], p),
-        ("K8, ends", k8(), &[0, 5, 10], &[(3, &[0, 10]), (1, &[0, 5]), (2, &[5, 10])]),
+        ("P, ends", set_p(), &[0, 10, 15, 19, 21, 31][..], p),
+        ("K8, ends", k8(), &[0, 5, 6, 11], k8_intervals),
         ("K11, ends", Draft::new(1, 1).bytes(), &[], &[(0, &[])]),
     ] {
         let known = Known::new(RIGHT, &file);
@@ -148,6 +150,6 @@ fn rows_of(c: &mut Comparison, random: &mut Random, file: &[u8]) -> Compared<Opt
 fn expect(holds: bool, name: &str) -> Compared<()> {
     match holds {
         true => Ok(()),
-        false => Err(Failure(format!("case {name} is not as document 01 states"))),
+        false => Err(Failure(format!("case {name} is not as the documents state"))),
     }
 }

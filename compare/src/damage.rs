@@ -1,4 +1,6 @@
-//! Faults of a file, made in its bytes.
+//! Faults of a file, made in its bytes; and periods of which some are no fault.
+
+use crate::reference::reading::word;
 
 /// A fault; the credential's faults are made in the credential at a place.
 #[derive(Clone, Copy, Debug)]
@@ -15,7 +17,7 @@ pub enum Fault {
     Limit(usize),
     /// A byte of the statement.
     Byte(usize, u8),
-    Period(Order),
+    Period(Bounds),
 }
 
 #[derive(Clone, Copy, Debug)]
@@ -26,11 +28,19 @@ pub enum Value {
     Plus(u16),
 }
 
+/// What becomes of from and to. The last minute is 4,294,967,294; 4,294,967,295 is beyond it.
 #[derive(Clone, Copy, Debug)]
-pub enum Order {
+pub enum Bounds {
+    /// From is to: one minute.
     Same,
+    /// From is the minute after to.
+    Next,
     Reversed,
-    Last,
+    FromBeyond,
+    ToBeyond,
+    BothBeyond,
+    ToLast,
+    BothLast,
 }
 
 pub fn all() -> Vec<Fault> {
@@ -45,7 +55,8 @@ pub fn all() -> Vec<Fault> {
     all.extend([6, 7, 255].map(Kind));
     all.extend((1..7).map(Limit));
     all.extend((1..8).flat_map(|byte| [Byte(byte, 1), Byte(byte, 255)]));
-    all.extend([Order::Same, Order::Reversed, Order::Last].map(Period));
+    all.extend([Bounds::Same, Bounds::Next, Bounds::Reversed].map(Period));
+    all.extend([Bounds::FromBeyond, Bounds::ToBeyond, Bounds::BothBeyond, Bounds::ToLast, Bounds::BothLast].map(Period));
     all
 }
 
@@ -71,13 +82,20 @@ pub fn make(fault: Fault, bytes: &mut Vec<u8>, count: usize, place: usize) {
         Fault::Kind(kind) if has(statement + 8) => bytes[statement] = kind,
         Fault::Limit(byte) if has(statement + 8) => bytes[statement + byte] = size(bytes, [0, 1, 0, 1, 0, 1][byte - 1]) as u8,
         Fault::Byte(byte, value) if has(statement + 8) => bytes[statement + byte] = value,
-        Fault::Period(order) if has(period + 8) => {
-            let (from, to): (Vec<u8>, Vec<u8>) = (bytes[period..period + 4].to_vec(), bytes[period + 4..period + 8].to_vec());
-            match order {
-                Order::Same => bytes[period..period + 4].copy_from_slice(&to),
-                Order::Reversed => bytes[period..period + 8].copy_from_slice(&[to, from].concat()),
-                Order::Last => bytes[period..period + 4].copy_from_slice(&[255; 4]),
-            }
+        Fault::Period(bounds) if has(period + 8) => {
+            let (from, to) = (word(&bytes[period..], 0), word(&bytes[period..], 1));
+            let (beyond, last) = (u32::MAX, u32::MAX - 1);
+            let (from, to) = match bounds {
+                Bounds::Same => (to, to),
+                Bounds::Next => (to.wrapping_add(1), to),
+                Bounds::Reversed => (to, from),
+                Bounds::FromBeyond => (beyond, to),
+                Bounds::ToBeyond => (from, beyond),
+                Bounds::BothBeyond => (beyond, beyond),
+                Bounds::ToLast => (from, last),
+                Bounds::BothLast => (last, last),
+            };
+            bytes[period..period + 8].copy_from_slice(&[from.to_le_bytes(), to.to_le_bytes()].concat());
         }
         _ => {}
     }

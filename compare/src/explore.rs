@@ -14,7 +14,7 @@ use crate::reference::{role, Membership, MOST};
 
 /// Every minute at, before and after each end.
 pub fn minutes(file: &File) -> Vec<u32> {
-    let mut minutes: Vec<u32> = file.ends().iter().flat_map(|&end| [end.saturating_sub(1), end, end.saturating_add(1)]).collect();
+    let mut minutes: Vec<u32> = file.ends.iter().flat_map(|&end| [end.saturating_sub(1), end, end.saturating_add(1)]).collect();
     minutes.extend(minutes.is_empty().then_some(0));
     minutes.dedup();
     minutes
@@ -57,7 +57,7 @@ pub const LISTS: [usize; 7] = [0, 252, 255, BYTES, 257, 260, 1024];
 
 /// Span numbers: none, all, alternate, gaps, those of memberships, and with bits beyond the last span.
 fn span_numbers(random: &mut Random, known: &Known) -> Vec<u64> {
-    let spans = known.read.as_ref().map_or(0, |file| file.ends().len().saturating_sub(1));
+    let spans = known.read.as_ref().map_or(0, |file| file.ends.len().saturating_sub(1));
     let all = (1 << spans) - 1;
     let some = [random.next(), random.next() | random.next(), random.next() & random.next(), !(1 << random.below(64)), 1 << random.below(64)];
     let mut numbers: Vec<u64> = some.into_iter().chain([0, u64::MAX, 0x5555_5555_5555_5555]).map(|number| number & all).collect();
@@ -200,6 +200,6 @@ fn validity(file: &File, written: &Written, q: Question) -> bool {
     let [roles, sets, spans] = &written.lists;
     let Some(entry) = (0..written.count).find(|&i| word(roles, i) == q.role && word(sets, i) == q.set) else { return false };
     let spans = word(spans, 2 * entry) as u64 | (word(spans, 2 * entry + 1) as u64) << 32;
-    let ends = file.ends();
+    let ends = &file.ends;
     (1..ends.len()).any(|end| spans >> (end - 1) & 1 == 1 && ends[end - 1] <= q.minute && q.minute < ends[end])
 }

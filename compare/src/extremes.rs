@@ -12,13 +12,14 @@ pub fn with_ends(random: &mut Random, count: usize) -> Draft {
     let roles = roles(random, entities, names, 6);
     let mut order: Vec<u32> = ends.clone();
     random.shuffle(&mut order);
-    let mut periods: Vec<Period> = order.chunks(2).map(|pair| (pair[0], *pair.get(1).unwrap_or(&order[0]))).collect();
+    let of_two = |a: u32, b: u32| between(a.min(b), a.max(b));
+    let mut periods: Vec<Period> = order.chunks(2).map(|pair| of_two(pair[0], *pair.get(1).unwrap_or(&order[0]))).collect();
     for _ in 0..random.choose(&[0, 1, 20, 256 - periods.len()]) {
         periods.push(period(random, &ends));
     }
     random.shuffle(&mut periods);
-    for (a, b) in periods {
-        add_dense(&mut draft, random, &roles, MIXTURES[0], (a.min(b), a.max(b)));
+    for period in periods {
+        add_dense(&mut draft, random, &roles, MIXTURES[0], period);
     }
     draft
 }
@@ -30,6 +31,7 @@ pub fn with_memberships(random: &mut Random, total: usize, widest: usize) -> Dra
     let mut free: Vec<u32> = (0..32 * 32).collect();
     random.shuffle(&mut free);
     let ends = [0, 7, 20, 21];
+    let whole = between(ends[0], ends[3]);
     let mut closed: Vec<(usize, u32)> = Vec::new();
     let mut left = total;
     let mut width = widest;
@@ -41,9 +43,9 @@ pub fn with_memberships(random: &mut Random, total: usize, widest: usize) -> Dra
         let head = free.pop().unwrap();
         let same: Vec<u32> = closed.iter().filter(|(w, _)| *w == width).map(|&(_, role)| role).collect();
         if !same.is_empty() && !random.once_in(3) {
-            draft.include(head, random.choose(&same), (ends[0], ends[3]));
+            draft.include(head, random.choose(&same), whole);
         } else {
-            let period = if random.once_in(2) { (ends[0], ends[3]) } else { period(random, &ends) };
+            let period = if random.once_in(2) { whole } else { period(random, &ends) };
             let mut entities: Vec<u32> = (0..32).collect();
             random.shuffle(&mut entities);
             entities[..width].iter().for_each(|&entity| draft.fact(head, entity, period));
@@ -114,14 +116,14 @@ pub fn chain(random: &mut Random, length: usize) -> Draft {
 pub fn staggered(random: &mut Random) -> Draft {
     let (sets, length, spans) = (4, 8, random.within(20, 63));
     let ends = ends(random, spans + 1);
-    let whole = (ends[0], ends[spans]);
+    let whole = between(ends[0], ends[spans]);
     let mut draft = Draft::new(32, 32);
     let mut free: Vec<u32> = (0..32 * 32).filter(|role| role % 32 != 1).collect();
     random.shuffle(&mut free);
     let (ring, rest) = free.split_at(length);
     for span in 0..spans {
         let (at, entity) = (random.below(length), random.below(sets) as u32);
-        draft.fact(ring[at], entity, (ends[span], ends[span + 1]));
+        draft.fact(ring[at], entity, between(ends[span], ends[span + 1]));
     }
     for pair in ring.windows(2) {
         draft.include(pair[1], pair[0], whole);

@@ -3,9 +3,16 @@
 use crate::random::Random;
 use crate::reference::{reading::uses, role};
 
+/// From and to as the file has them; both minutes are covered.
 pub type Period = (u32, u32);
 
-pub const WHOLE: Period = (0, u32::MAX);
+/// Every minute.
+pub const WHOLE: Period = (0, u32::MAX - 1);
+
+/// The period that has these ends.
+pub fn between(start: u32, stop: u32) -> Period {
+    (start, stop - 1)
+}
 
 /// A file as statements and periods; it may hold more than the limits allow.
 #[derive(Clone)]
@@ -54,7 +61,7 @@ impl Draft {
     }
 }
 
-/// Distinct ends, ascending: from 0, up to the last minute, close together, far apart.
+/// Distinct ends, ascending: from 0, up to the minute after the last, close together, far apart.
 pub fn ends(random: &mut Random, count: usize) -> Vec<u32> {
     let last = count as u32 - 1;
     match random.below(5) {
@@ -76,15 +83,15 @@ pub fn ends(random: &mut Random, count: usize) -> Vec<u32> {
 pub fn period(random: &mut Random, ends: &[u32]) -> Period {
     let last = ends.len() - 1;
     match random.below(5) {
-        0 => (ends[0], ends[last]),
+        0 => between(ends[0], ends[last]),
         1 => {
             let at = random.below(last);
-            (ends[at], ends[at + 1])
+            between(ends[at], ends[at + 1])
         }
         _ => loop {
             let (a, b) = (random.choose(ends), random.choose(ends));
             if a != b {
-                return (a.min(b), a.max(b));
+                return between(a.min(b), a.max(b));
             }
         },
     }

@@ -12,7 +12,7 @@ pub const LAX: &[Rules] = &[
     Rules { combines: |_, x, _| Some(x), ..RIGHT },
     Rules { links: |set| (0..32).find(|entity| set >> entity & 1 == 1), ..RIGHT },
     Rules { covers: |_, _, _| true, ..RIGHT },
-    Rules { covers: |from, to, minute| from <= minute && minute <= to, ..RIGHT },
+    Rules { covers: |from, to, minute| from <= minute && minute <= to + 1, ..RIGHT },
 ];
 
 /// Random steps that keep the rules: idle steps, memberships shown twice and needless levels included.

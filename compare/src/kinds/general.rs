@@ -42,6 +42,26 @@ pub fn periods(c: &mut Comparison, random: &mut Random, count: usize) -> Compare
     Ok(())
 }
 
+/// Two periods whose from and to are 0, 1 or one of the last three numbers: some are accepted, among them from = to and `to` 4,294,967,294, and some refused.
+pub fn bounds(c: &mut Comparison, random: &mut Random, count: usize) -> Compared<()> {
+    let values = [0, 1, u32::MAX - 2, u32::MAX - 1, u32::MAX];
+    let all: Vec<Period> = values.into_iter().flat_map(|from| values.map(|to| (from, to))).collect();
+    for (one, other) in all.iter().flat_map(|&one| all.iter().map(move |&other| (one, other))).cycle().take(count * all.len() * all.len()) {
+        let mut draft = Draft::new(1, 2);
+        draft.fact(0, 0, one);
+        draft.include(1, 0, other);
+        let file = draft.bytes();
+        let known = c.known(&file);
+        if known.read.is_err() {
+            damaged_calls(c, random, &file, &known)?;
+            continue;
+        }
+        ends_and_intervals(c, random, &file, &known)?;
+        joint(c, random, &file, &known, 4)?;
+    }
+    Ok(())
+}
+
 pub fn medium(c: &mut Comparison, random: &mut Random, count: usize) -> Compared<()> {
     for i in 0..count {
         let draft = if i % 2 == 0 {
@@ -65,7 +85,7 @@ pub fn many_ends(c: &mut Comparison, random: &mut Random, count: usize) -> Compa
         let ends = [63, 64, 65][i % 3];
         let file = with_ends(random, ends).bytes();
         let known = c.known(&file);
-        assert!(known.read.as_ref().map_or(65, |file| file.ends().len()) == ends);
+        assert!(known.read.as_ref().map_or(65, |file| file.ends.len()) == ends);
         complete_all(c, random, &file, &known)?;
         query_some(c, random, &file, &known, 60, 1)?;
         if known.read.is_err() {

@@ -29,10 +29,11 @@ const fn every(name: &'static str, run: Run, what: &'static str) -> Kind {
 }
 
 pub const KINDS: &[Kind] = &[
-    kind("cases", 1, cases::run, "document 01's set P and K1 to K11, with the results it gives"),
+    kind("cases", 1, cases::run, "set P and K1 to K11, with the results that documents 01 and 02 give"),
     kind("small", 8000, general::small, "small dense files, proofs and changed proofs"),
     kind("joint", 600, general::joint_small, "small files: every role, set and minute at, before and after each end"),
-    kind("periods", 600, general::periods, "the same with periods that touch, overlap, start at 0 and end at 4,294,967,295"),
+    kind("periods", 600, general::periods, "the same with periods of one minute and more that touch and overlap, from minute 0 to 4,294,967,294"),
+    kind("bounds", 1, general::bounds, "every from and to among 0, 1 and the last three numbers, for two credentials"),
     kind("damaged", 9, faults::damaged, "every two faults at once, with faults of the lists and the question"),
     kind("questions", 40, faults::questions, "questions within and beyond a file's numbers, with other faults"),
     kind("bytes", 30000, faults::random_bytes, "random bytes"),

@@ -7,7 +7,7 @@ use crate::random::Random;
 use crate::reference::checking::Step;
 use crate::reference::known::Question;
 
-/// Every file within these numbers: ordered or not, with all or one of the periods 0..1, 0..2, 1..2.
+/// Every file within these numbers: ordered or not, with all or one of the periods 0..0, 0..1, 1..1.
 struct Tiny {
     entities: u8,
     names: u8,
@@ -29,7 +29,7 @@ pub fn tiny(c: &mut Comparison, random: &mut Random, per_thousand: usize) -> Com
     for size in &TINY {
         let mut credentials = Vec::new();
         for statement in statements(size.entities, size.names) {
-            credentials.extend([(0, 1), (0, 2), (1, 2)][..size.periods].iter().map(|&period| (statement, period)));
+            credentials.extend([(0, 0), (0, 1), (1, 1)][..size.periods].iter().map(|&period| (statement, period)));
         }
         let mut chosen = vec![0; size.credentials];
         loop {
@@ -82,7 +82,7 @@ pub fn tiny_proofs(c: &mut Comparison, random: &mut Random, per_thousand: usize)
     for one in &statements {
         for other in &statements {
             let mut draft = Draft::new(2, 1);
-            draft.credentials = vec![(*one, (0, 2)), (*other, (0, 1))];
+            draft.credentials = vec![(*one, (0, 1)), (*other, (0, 0))];
             let file = draft.bytes();
             let known = c.known(&file);
             for i in 0..steps.len() * (steps.len() + 1) {

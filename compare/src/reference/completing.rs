@@ -10,7 +10,7 @@ pub type Table = BTreeMap<Membership, u64>;
 
 /// The table, or none if it has more than 1,024 memberships.
 pub fn table(rules: &Rules, file: &File) -> Option<Table> {
-    let ends = file.ends();
+    let ends = &file.ends;
     let mut table = Table::new();
     for span in 0..ends.len().saturating_sub(1) {
         match members(rules, file, ends[span]) {

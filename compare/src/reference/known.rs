@@ -61,7 +61,7 @@ pub fn steps(lists: &[&[u8]; 4], count: usize) -> Vec<Step> {
 
 impl Known {
     pub fn new(rules: Rules, bytes: &[u8]) -> Known {
-        Known { rules, read: read(bytes), minutes: Default::default(), table: OnceCell::new() }
+        Known { rules, read: read(&rules, bytes), minutes: Default::default(), table: OnceCell::new() }
     }
 
     pub fn table(&self) -> Option<&Table> {
@@ -90,16 +90,16 @@ impl Known {
 
     /// Count and list, or the refusal, which leaves the list as it was.
     pub fn ends(&self, length: usize) -> Result<(u64, Vec<u8>), Refusal> {
-        let ends = self.read.as_ref().map_err(|r| *r)?.ends();
+        let ends = &self.read.as_ref().map_err(|r| *r)?.ends;
         whole_list(length)?;
-        Ok((ends.len() as u64, listed(ends)))
+        Ok((ends.len() as u64, listed(ends.iter().copied())))
     }
 
     /// The same of the intervals of a span number.
     pub fn intervals(&self, spans: u64, length: usize) -> Result<(u64, Vec<u8>), Refusal> {
-        let ends = self.read.as_ref().map_err(|r| *r)?.ends();
+        let ends = &self.read.as_ref().map_err(|r| *r)?.ends;
         whole_list(length)?;
-        let intervals = intervals(&ends, spans)?;
+        let intervals = intervals(ends, spans)?;
         Ok((intervals.len() as u64, listed(intervals.into_iter().flat_map(|(from, to)| [from, to]))))
     }
 

@@ -1,4 +1,4 @@
-//! A second implementation of the calls of document 01, written from documents 01 and 003 and not from the library.
+//! A second implementation of the calls of document 01, written from documents 01, 02 (request One) and 003 and not from the library.
 //! It is as slow and as plain as it can be: every minute's memberships are Definition 3's sequence from nothing.
 
 pub mod checking;
@@ -12,8 +12,12 @@ pub mod reading;
 /// The parts of the rules that a wrong variant may replace.
 #[derive(Clone, Copy)]
 pub struct Rules {
+    /// Whether 7 refuses the period from..to.
+    pub refuses: fn(from: u32, to: u32) -> bool,
     /// Whether the period from..to covers the minute.
     pub covers: fn(from: u32, to: u32, minute: u32) -> bool,
+    /// The end that `to` makes.
+    pub end: fn(to: u32) -> u32,
     /// The entity C for which a set is {C}.
     pub links: fn(set: u32) -> Option<u32>,
     /// What the kinds 3, 4 and 5 give from X in b.s and Y in c.t.
@@ -22,10 +26,19 @@ pub struct Rules {
     pub rounds: usize,
 }
 
-pub const RIGHT: Rules = Rules { covers, links, combines, rounds: usize::MAX };
+pub const RIGHT: Rules = Rules { refuses, covers, end, links, combines, rounds: usize::MAX };
+
+fn refuses(from: u32, to: u32) -> bool {
+    from > to || to == 4_294_967_295
+}
 
 fn covers(from: u32, to: u32, minute: u32) -> bool {
-    from <= minute && minute < to
+    from <= minute && minute <= to
+}
+
+/// Of a period that is not refused.
+fn end(to: u32) -> u32 {
+    to + 1
 }
 
 fn links(set: u32) -> Option<u32> {

@@ -1,6 +1,6 @@
-//! Document 01, "The credentials file": bytes to credentials, or the first of the refusals 1 to 8.
+//! Document 01, "The credentials file", with document 02's request One: bytes to credentials, or the first of the refusals 1 to 8.
 
-use super::{refuse, role, Refusal};
+use super::{refuse, role, Refusal, Rules};
 use std::collections::BTreeSet;
 
 #[derive(Clone, Copy, PartialEq, Eq, Debug)]
@@ -19,6 +19,7 @@ pub enum Body {
 pub struct Credential {
     pub head: u32,
     pub body: Body,
+    /// As the file has them: both minutes are covered.
     pub from: u32,
     pub to: u32,
 }
@@ -28,17 +29,11 @@ pub struct File {
     pub entities: u32,
     pub names: u32,
     pub credentials: Vec<Credential>,
+    /// The distinct from values and `to` values plus one, ascending.
+    pub ends: Vec<u32>,
 }
 
-impl File {
-    /// The distinct from and to values, ascending.
-    pub fn ends(&self) -> Vec<u32> {
-        let ends: BTreeSet<u32> = self.credentials.iter().flat_map(|c| [c.from, c.to]).collect();
-        ends.into_iter().collect()
-    }
-}
-
-pub fn read(bytes: &[u8]) -> Result<File, Refusal> {
+pub fn read(rules: &Rules, bytes: &[u8]) -> Result<File, Refusal> {
     if bytes.len() < 6 {
         return refuse(1);
     }
@@ -50,16 +45,18 @@ pub fn read(bytes: &[u8]) -> Result<File, Refusal> {
     if bytes.len() != 6 + 16 * count {
         return refuse(3);
     }
-    let mut file = File { entities: entities as u32, names: names as u32, credentials: Vec::new() };
+    let mut file = File { entities: entities as u32, names: names as u32, credentials: Vec::new(), ends: Vec::new() };
     for place in 0..count {
         let statement = &bytes[6 + 8 * place..][..8];
         let period = &bytes[6 + 8 * count + 8 * place..][..8];
-        match credential(statement, period, file.entities, file.names) {
+        match credential(rules, statement, period, file.entities, file.names) {
             Ok(credential) => file.credentials.push(credential),
             Err(number) => return Err(Refusal { number, place: place as u32 }),
         }
     }
-    if file.ends().len() > 64 {
+    let ends: BTreeSet<u32> = file.credentials.iter().flat_map(|c| [c.from, (rules.end)(c.to)]).collect();
+    file.ends = ends.into_iter().collect();
+    if file.ends.len() > 64 {
         return refuse(8);
     }
     Ok(file)
@@ -76,7 +73,7 @@ pub fn uses(kind: u8) -> [bool; 4] {
 }
 
 /// One credential, or the number of its first refusal.
-fn credential(statement: &[u8], period: &[u8], entities: u32, names: u32) -> Result<Credential, u32> {
+fn credential(rules: &Rules, statement: &[u8], period: &[u8], entities: u32, names: u32) -> Result<Credential, u32> {
     let kind = statement[0];
     if kind > 5 {
         return Err(4);
@@ -91,7 +88,7 @@ fn credential(statement: &[u8], period: &[u8], entities: u32, names: u32) -> Res
         return Err(6);
     }
     let (from, to) = (word(period, 0), word(period, 1));
-    if from >= to {
+    if (rules.refuses)(from, to) {
         return Err(7);
     }
     let body = match kind {

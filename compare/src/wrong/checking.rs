@@ -12,7 +12,7 @@ use crate::reference::Rules;
 pub const ALL: &[Wrong] = &[
     check("checker-different", |_, f, q, l, n| Second { rules: DIFFERENT }.check(f, q, l, n), "⊗ as X ≠ Y in the checker only"),
     check("checker-sum", |_, f, q, l, n| Second { rules: SUM }.check(f, q, l, n), "⊙ by + in the checker"),
-    check("checker-to-covered", |_, f, q, l, n| Second { rules: TO_COVERED }.check(f, q, l, n), "minute `to` covered in the checker"),
+    check("checker-to-uncovered", |_, f, q, l, n| Second { rules: TO_UNCOVERED }.check(f, q, l, n), "minute `to` not covered in the checker"),
     check("passes-everything", |s, f, q, l, n| on(s.check(f, q, l, n), &[15, 16], |_| 1), "a checker that passes everything"),
     check("passes-nothing", |s, f, q, l, n| on(s.check(f, q, l, n), &[0], |_| refusal(15)), "a checker that passes nothing"),
     check("second-word-untested", second_word_untested, "kind 1's second word not tested"),
@@ -38,7 +38,7 @@ pub const ALL: &[Wrong] = &[
 ];
 
 const DIFFERENT: Rules = Rules { combines: different, ..RIGHT };
-const TO_COVERED: Rules = Rules { covers: |from, to, minute| from <= minute && minute <= to, ..RIGHT };
+const TO_UNCOVERED: Rules = Rules { covers: |from, to, minute| from <= minute && minute < to, ..RIGHT };
 const SUM: Rules = Rules { combines: |kind, x, y| if kind == 4 { x.checked_add(y) } else { right(kind, x, y) }, ..RIGHT };
 
 #[derive(Clone, Copy, PartialEq)]
@@ -136,7 +136,7 @@ fn last_credential_valid(second: &Second, file: Slice, q: Question, lists: [Slic
     let mut bytes = file.all();
     let credentials = accepted(file).unwrap().credentials.len();
     for place in (0..credentials).filter(|&place| place as u32 != steps[steps.len() - 1].credential) {
-        bytes[6 + 8 * credentials + 8 * place..][..8].copy_from_slice(&[0, 0, 0, 0, 255, 255, 255, 255]);
+        bytes[6 + 8 * credentials + 8 * place..][..8].copy_from_slice(&[0, 0, 0, 0, 254, 255, 255, 255]);
     }
     let wide = Slice { start: bytes.as_mut_ptr(), length: bytes.len() };
     instead(second, wide, q, &steps)

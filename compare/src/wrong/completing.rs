@@ -5,7 +5,7 @@ use crate::calls::{zero, Calls, Second, Slice};
 use crate::reference::completing::{table, written, Table};
 use crate::reference::known::entries;
 use crate::reference::meaning::valid;
-use crate::reference::reading::{Body, Credential, File};
+use crate::reference::reading::{word, Body, Credential, File};
 use crate::reference::{role, Rules};
 
 pub const ALL: &[Wrong] = &[
@@ -24,6 +24,7 @@ pub const ALL: &[Wrong] = &[
     complete("sixty-four-ends-refused", |s, f, l| if ends(f) == 64 { refusal(8) } else { s.complete(f, l) }, "64 ends refused"),
     complete("nine-before-eight", nine_before_eight, "9 before 8"),
     complete("all-kinds-first", all_kinds_first, "4 of all credentials before 5 to 7 of any"),
+    complete("all-periods-first", all_periods_first, "7 of all credentials before 4 to 6 of any"),
     complete("spans-length-ignored", spans_length_ignored, "the third list's length not compared"),
     complete("length-rounded-down", length_rounded_down, "lengths that are not whole entries rounded down"),
     complete("exchanged", |s, f, l| s.complete(f, l).rotate_left(32), "place and number exchanged"),
@@ -38,7 +39,7 @@ fn dry(second: &Second, file: Slice, lists: [Slice; 3]) -> u64 {
 }
 
 fn ends(file: Slice) -> usize {
-    accepted(file).map_or(0, |file| file.ends().len())
+    accepted(file).map_or(0, |file| file.ends.len())
 }
 
 fn ten_at_limit(second: &Second, file: Slice, lists: [Slice; 3]) -> u64 {
@@ -76,7 +77,7 @@ fn changed(second: &Second, file: Slice, lists: [Slice; 3], change: fn(&File, u6
 }
 
 fn zero_always_an_end(file: &File, spans: u64) -> u64 {
-    if file.ends()[0] == 0 {
+    if file.ends[0] == 0 {
         spans
     } else {
         spans << 1
@@ -101,7 +102,7 @@ fn ten_in_a_span(second: &Second, file: Slice, lists: [Slice; 3]) -> u64 {
 }
 
 fn own_spans(file: &File, credential: &Credential) -> u64 {
-    let ends = file.ends();
+    let ends = &file.ends;
     (0..ends.len().min(63)).filter(|&i| valid(&RIGHT, credential, ends[i])).map(|i| 1 << i).sum()
 }
 
@@ -199,6 +200,19 @@ fn all_kinds_first(second: &Second, file: Slice, lists: [Slice; 3]) -> u64 {
         let count = u16::from_le_bytes([bytes[4], bytes[5]]) as u64;
         if let Some(place) = (0..count).find(|&i| bytes[6 + 8 * i as usize] > 5) {
             return refusal(4) + place;
+        }
+    }
+    reply
+}
+
+fn all_periods_first(second: &Second, file: Slice, lists: [Slice; 3]) -> u64 {
+    let reply = second.complete(file, lists);
+    let bytes = file.all();
+    if (4..9).contains(&number(reply)) {
+        let count = u16::from_le_bytes([bytes[4], bytes[5]]) as usize;
+        let period = |i: usize| (word(&bytes[6 + 8 * (count + i)..], 0), word(&bytes[6 + 8 * (count + i)..], 1));
+        if let Some(place) = (0..count).find(|&i| (RIGHT.refuses)(period(i).0, period(i).1)) {
+            return refusal(7) + place as u64;
         }
     }
     reply

@@ -1,13 +1,15 @@
 //! Wrong ways to list the ends, and the intervals of a span number.
 
-use super::{accepted, ends, intervals, number, refusal, unwritten, Wrong};
+use super::{accepted, ends, intervals, number, refusal, unwritten, Wrong, RIGHT};
 use crate::calls::{zero, Calls, Second, Slice};
 use crate::reference::ends::{intervals as right, listed, BYTES};
+use crate::reference::Rules;
 
 pub const ALL: &[Wrong] = &[
     ends("ends-in-file-order", |s, f, l| relisted(s, f, l, |f| file_order(f, false)), "ends in file order"),
     ends("ends-neighbours-distinct", |s, f, l| relisted(s, f, l, |f| file_order(f, true)), "only neighbours in file order compared"),
     ends("ends-with-zero", |s, f, l| relisted(s, f, l, with_zero), "0 always among the ends"),
+    ends("ends-at-to", |_, f, l| Second { rules: AT_TO }.ends(f, l), "`to` listed, not to + 1, by this call only"),
     ends("ends-of-the-first", |s, f, l| relisted(s, f, l, first_only), "the first credential's ends alone"),
     ends("ends-tail-left", |s, f, l| tail_left(l, 4, || s.ends(f, l)), "bytes after the last end left"),
     ends("ends-not-written", |s, f, l| unwritten([l], || s.ends(f, l)), "list untouched after success"),
@@ -22,7 +24,8 @@ pub const ALL: &[Wrong] = &[
     ends("ends-exchanged", |s, f, l| s.ends(f, l).rotate_left(32), "place and number exchanged"),
     intervals("intervals-not-joined", |s, f, n, l| rewritten(s, f, n, l, |e, n| each_span(e, n)), "touching spans not joined"),
     intervals("intervals-over-gaps", |s, f, n, l| rewritten(s, f, n, l, over_gaps), "one interval from the first span to the last"),
-    intervals("intervals-inclusive", |s, f, n, l| rewritten(s, f, n, l, inclusive), "the last minute in place of `to`"),
+    intervals("intervals-at-to", |_, f, n, l| Second { rules: AT_TO }.intervals(f, n, l), "spans between `to` values, not to + 1, in this call only"),
+    intervals("intervals-inclusive", |s, f, n, l| rewritten(s, f, n, l, inclusive), "intervals that end with their last minute"),
     intervals("intervals-exchanged", |s, f, n, l| rewritten(s, f, n, l, |e, n| each_pair(e, n, |(from, to)| (to, from))), "to before from"),
     intervals("intervals-falling", |s, f, n, l| rewritten(s, f, n, l, falling), "descending"),
     intervals("intervals-next-span", |s, f, n, l| rewritten(s, f, n, l, |e, n| right(e, n >> 1).unwrap()), "bit i for span i - 1"),
@@ -51,6 +54,8 @@ pub const ALL: &[Wrong] = &[
     ),
 ];
 
+const AT_TO: Rules = Rules { end: |to| to, ..RIGHT };
+
 fn on_success(reply: u64, change: impl FnOnce(u64) -> u64) -> u64 {
     if number(reply) == 0 {
         change(reply)
@@ -72,7 +77,7 @@ fn relisted(second: &Second, file: Slice, list: Slice, change: fn(Slice) -> Vec<
 /// The ends as the credentials have them, each once, or each but where it follows itself.
 fn file_order(file: Slice, neighbours: bool) -> Vec<u32> {
     let mut ends = Vec::new();
-    for end in accepted(file).unwrap().credentials.iter().flat_map(|c| [c.from, c.to]) {
+    for end in accepted(file).unwrap().credentials.iter().flat_map(|c| [c.from, c.to + 1]) {
         let known = if neighbours { ends.last() == Some(&end) } else { ends.contains(&end) };
         if !known {
             ends.push(end);
@@ -82,7 +87,7 @@ fn file_order(file: Slice, neighbours: bool) -> Vec<u32> {
 }
 
 fn with_zero(file: Slice) -> Vec<u32> {
-    let mut ends = accepted(file).unwrap().ends();
+    let mut ends = accepted(file).unwrap().ends;
     if !ends.contains(&0) {
         ends.insert(0, 0);
     }
@@ -90,7 +95,7 @@ fn with_zero(file: Slice) -> Vec<u32> {
 }
 
 fn first_only(file: Slice) -> Vec<u32> {
-    accepted(file).unwrap().credentials.first().map_or(vec![], |c| vec![c.from, c.to])
+    accepted(file).unwrap().credentials.first().map_or(vec![], |c| vec![c.from, c.to + 1])
 }
 
 /// The list as it was after the first entries of so many bytes.
@@ -117,7 +122,7 @@ fn in_longer(list: Slice, call: impl FnOnce(Slice) -> u64) -> u64 {
 
 fn in_shorter(second: &Second, file: Slice, list: Slice) -> u64 {
     let reply = second.ends(file, list);
-    match accepted(file).map(|file| file.ends()) {
+    match accepted(file).map(|file| file.ends) {
         Some(ends) if number(reply) == 9 && list.length < BYTES && list.length % 4 == 0 && ends.len() * 4 <= list.length => {
             list.write(&listed(ends.iter().copied())[..list.length]);
             ends.len() as u64
@@ -136,7 +141,7 @@ fn cleared(list: Slice, reply: u64, on: u64) -> u64 {
 /// Other intervals where the right call writes some.
 fn rewritten(second: &Second, file: Slice, spans: u64, list: Slice, change: fn(&[u32], u64) -> Vec<(u32, u32)>) -> u64 {
     on_success(second.intervals(file, spans, list), |_| {
-        let mut intervals = change(&accepted(file).unwrap().ends(), spans);
+        let mut intervals = change(&accepted(file).unwrap().ends, spans);
         intervals.truncate(32);
         list.write(&listed(intervals.iter().flat_map(|&(from, to)| [from, to])));
         intervals.len() as u64
@@ -170,7 +175,7 @@ fn spans_counted(second: &Second, file: Slice, spans: u64, list: Slice) -> u64 {
 
 /// The bits of a number that are among the spans of an accepted file, and some more.
 fn within(file: Slice, spans: u64, more: usize) -> u64 {
-    let count = accepted(file).map_or(63, |file| file.ends().len().saturating_sub(1));
+    let count = accepted(file).map_or(63, |file| file.ends.len().saturating_sub(1));
     (0..64).filter(|&i| i < count + more && spans >> i & 1 == 1).map(|i| 1 << i).sum()
 }
 

@@ -115,10 +115,36 @@ const RULES: &[Wrong] = &[
     rules("no-intersection", Rules { combines: |k, x, y| if k == 3 { None } else { right(k, x, y) }, ..RIGHT }, "∩ gives nothing"),
     rules("link-through-two", Rules { links: |set| (0..32).find(|e| set >> e & 1 == 1), ..RIGHT }, "links through the lowest entity of any set"),
     rules("no-link", Rules { links: |_| None, ..RIGHT }, "links give nothing"),
-    rules("to-covered", Rules { covers: |from, to, minute| from <= minute && minute <= to, ..RIGHT }, "minute `to` covered"),
-    rules("from-not-covered", Rules { covers: |from, to, minute| from < minute && minute < to, ..RIGHT }, "minute `from` not covered"),
+    rules("to-uncovered", Rules { covers: |from, to, minute| from <= minute && minute < to, ..RIGHT }, "minute `to` not covered"),
+    rules("after-to-covered", Rules { covers: |from, to, minute| from <= minute && minute <= to + 1, ..RIGHT }, "the minute after `to` covered"),
+    rules("from-not-covered", Rules { covers: |from, to, minute| from < minute && minute <= to, ..RIGHT }, "minute `from` not covered"),
+    rules("half-open", HALF_OPEN, "7 at from ≥ to, `to` not covered, `to` among the ends: document 01 without request One"),
+    rules("seven-at-equal", Rules { refuses: |from, to| from >= to || to == u32::MAX, ..RIGHT }, "7 at from = to"),
+    rules("seven-without-order", Rules { refuses: |_, to| to == u32::MAX, ..RIGHT }, "7 for `to` 4,294,967,295 alone"),
+    rules(
+        "seven-from-two",
+        Rules { refuses: |from, to| to == u32::MAX || from > to + 1, ..RIGHT },
+        "from = to + 1 accepted, as a period without minutes",
+    ),
+    rules("last-to-accepted", Rules { refuses: |from, to| from > to, end: |to| to.saturating_add(1), ..RIGHT }, "`to` 4,294,967,295 accepted"),
+    rules("last-to-wraps", LAST_TO_WRAPS, "`to` 4,294,967,295 accepted, and to + 1 wraps to 0"),
+    rules("last-minute-refused", Rules { refuses: |from, to| from > to || to >= u32::MAX - 1, ..RIGHT }, "7 for `to` 4,294,967,294 too"),
+    rules("sum-tested", SUM_TESTED, "7 tested on to + 1, which wraps, in place of `to`"),
+    rules("ends-without-one", Rules { end: |to| to, ..RIGHT }, "`to` among the ends, not to + 1"),
     rules("few-rounds", Rules { rounds: 6, ..RIGHT }, "stops after six rounds"),
 ];
+
+const HALF_OPEN: Rules = Rules { refuses: |from, to| from >= to, covers: |from, to, minute| from <= minute && minute < to, end: |to| to, ..RIGHT };
+
+const LAST_TO_WRAPS: Rules = Rules {
+    refuses: |from, to| from > to,
+    covers: |from, to, minute| from <= minute && minute < to.wrapping_add(1),
+    end: |to| to.wrapping_add(1),
+    ..RIGHT
+};
+
+const SUM_TESTED: Rules =
+    Rules { refuses: |from, to| from > to.wrapping_add(1) || to.wrapping_add(1) == u32::MAX, end: |to| to.wrapping_add(1), ..RIGHT };
 
 /// Every wrong variant.
 pub fn all() -> Vec<Wrong> {
@@ -143,7 +169,7 @@ fn refusal(number: u64) -> u64 {
 }
 
 fn accepted(file: Slice) -> Option<File> {
-    read(&file.all()).ok()
+    read(&RIGHT, &file.all()).ok()
 }
 
 /// The call, then the lists as they were before it.

@@ -1,4 +1,4 @@
--- Document 01's conditions for the replies of completing, in propositions: when each refusal is given.
+-- The documents' conditions for the replies of completing, in propositions: when each refusal is given.
 use mathlib.Core.Path.{_≡_}
 use mathlib.Core.List.{List}
 use Prim.Native.Nat.{ℕ, _<_, _≤_}

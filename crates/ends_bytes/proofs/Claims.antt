@@ -31,7 +31,7 @@ module _ (f b : List ℕ) where
     -- The bytes, read as entries, are then the ends, and zeros after them.
     pub ends-read : Bytes f → entries 4 (endsBytes f b) ≡ padded 64 all
     unfolding endsBytes
-    ends-read small = ap (λ (o : Outcome ℕ). entries 4 (left o b (bytesOf 4 (padded 64 all)))) (success f b c l) ∙ places-read all (c .few) (end-low f small)
+    ends-read small = ap (λ (o : Outcome ℕ). entries 4 (left o b (bytesOf 4 (padded 64 all)))) (success f b c l) ∙ places-read all (c .few) (end-low f small c)
 
   -- The reply is below 4,294,967,296 exactly then.
   pub count-exactly : reply < 4294967296 ↔ (Accepted f × (length b ≡ 256))

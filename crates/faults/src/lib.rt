@@ -23,8 +23,11 @@ pub fn fault(file: &[u8], h: file::Head, i: usize) -> u32
     if !zeroed(file, i) {
         return 6;
     }
-    let v = file::read_period(file, h, i);
-    if v.until <= v.from {
+    let v = file::dates_at(file, h, i);
+    if v.to < v.from {
+        return 7;
+    }
+    if v.to == 4294967295 {
         return 7;
     }
     0

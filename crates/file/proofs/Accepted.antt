@@ -1,23 +1,24 @@
 -- What is known of a file that passes 1 to 8: its credentials' roles and sets are within the format's numbers, each position holds its credential,
--- and its ends are its from and to values.
+-- which covers the minutes from its `from` to its `to`, and the ends are the from values and the to values plus one.
 use mathlib.Core.Path.{_≡_, refl, sym, ap, _∙_, subst, subst⁻¹}
 use mathlib.Core.Logic.{_⊎_, _↔_}
 use mathlib.Core.List.{List, [], _∷_, List·Memᴰ as Mem, List·Memᴰ·head as head, List·Memᴰ·tail as tail}
 use mathlib.Core.Option.{some}
 use Prim.Native.Nat.{ℕ, _+_, _*_, _<_, _≤_}
 use native.Mathlib.Omega.{arith}
+use lib.Dec.{T}
 use lib.Pow.{pow-lt}
 use Rattle.meaning.specs.Lists.{below}
-use Rattle.meaning.specs.Credentials.{Credential, Period, SetFits, FitsAll}
+use Rattle.meaning.specs.Credentials.{Credential, Period, covers, SetFits, FitsAll}
 use Rattle.meaning.specs.Table.{ends}
 use Rattle.meaning.proofs.Tests.{is-true}
 use Rattle.meaning.proofs.ListLaws.{map-in, map-out, below-in, below-out}
-use Rattle.meaning.proofs.Spans.{ends-exact}
+use Rattle.meaning.proofs.Spans.{covers-in, covers-out, ends-exact}
 use Rattle.meaning.proofs.Levels.{entity-power}
 use Rattle.file.specs.Format.{statedBy, N, field, fromOf, toOf, periodOf, credentialIn, bodyOf, bodyIn, meaningOf, credentials}
 use Rattle.file.specs.Reading.{uses}
 use Rattle.file.specs.Values.{Read, valueOf, found, foundOf, foundIn}
-use Rattle.file.specs.Conditions.{Head, Good, Accepted}
+use Rattle.file.specs.Conditions.{Head, Dated, Good, Accepted}
 use Rattle.file.specs.declared.Body.{Body}
 use Rattle.file.specs.Refusals.{Outcome, numberOf}
 use Rattle.file.specs.declared.Found.the-variants as F
@@ -109,13 +110,23 @@ module _ (f : List ℕ) (a : Accepted f) where
   accepted-period : (i : ℕ) → i < N f → credentialIn f i .period ≡ periodOf f i
   accepted-period i l = good-period f (a .head) i (a .good i l)
 
-  -- the ends are the from and to values
-  pub accepted-ends : (x : ℕ) → Mem x (ends (credentials f)) ↔ ((i : ℕ) × (i < N f) × ((x ≡ fromOf f i) ⊎ (x ≡ toOf f i)))
+  -- a minute is covered exactly from `from` to `to`
+  pub accepted-covers : (i : ℕ) → i < N f → (m : ℕ) → T (covers (credentialIn f i .period) m) ↔ ((fromOf f i ≤ m) × (m ≤ toOf f i))
+  accepted-covers i h m =
+      let o : T (covers (periodOf f i) m) → (fromOf f i ≤ m) × (m < toOf f i + 1) = covers-out (periodOf f i) m in
+      subst⁻¹ (λ (v : Period). T (covers v m) ↔ ((fromOf f i ≤ m) × (m ≤ toOf f i))) (accepted-period i h)
+      ((λ t. (o t .0, let b = o t .1 in omega arith)), (λ b. covers-in (periodOf f i) m (b .0) (let l = b .1 in omega arith)))
+
+  -- the ends are the from values, and the to values plus one
+  pub accepted-ends : (x : ℕ) → Mem x (ends (credentials f)) ↔ ((i : ℕ) × (i < N f) × ((x ≡ fromOf f i) ⊎ (x ≡ toOf f i + 1)))
   unfolding credentials
   accepted-ends x = (out, into)
     where
       Bound : Period → Type 0
       Bound v = (x ≡ v .from) ⊎ (x ≡ v .until)
+
+      lasting : {i : ℕ} → Dated f i → fromOf f i < toOf f i + 1
+      lasting d = let o = d .order in omega arith
 
       out : Mem x (ends (credentials f)) → (i : ℕ) × (i < N f) × Bound (periodOf f i)
       out m =
@@ -130,6 +141,6 @@ module _ (f : List ℕ) (a : Accepted f) where
           ends-exact (credentials f) x .1 (
             credentialIn f i,
             map-in (credentialIn f) (below-in (N f) i h),
-            subst⁻¹ (λ (v : Period). v .from < v .until) e (a .good i h .period),
+            subst⁻¹ (λ (v : Period). v .from < v .until) e (lasting (a .good i h .period)),
             subst⁻¹ Bound e b,
           )

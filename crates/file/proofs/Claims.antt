@@ -1,20 +1,21 @@
 -- What reading a credentials file is shown to mean. Each claim is proved in the file whose name it is taken from.
 use mathlib.Core.Path.{_≡_, refl}
 use mathlib.Core.Logic.{_⊎_, _↔_}
-use mathlib.Core.List.{List, [], _∷_, List·Memᴰ as Mem}
+use mathlib.Core.List.{List, [], _∷_, map, List·Memᴰ as Mem}
 use Prim.Native.Nat.{ℕ, _+_, _*_, _^_, _<_, _≤_}
+use lib.Dec.{T}
 use lib.ListN.{length}
 use Rattle.meaning.specs.Lists.{Ascending}
-use Rattle.meaning.specs.Credentials.{_·_, set, role, link, _∩_, _⊙_, _⊗_, _⟵_, _during_, credentialAt, FitsAll}
+use Rattle.meaning.specs.Credentials.{_·_, set, role, link, _∩_, _⊙_, _⊗_, _⟵_, _during_, covers, credentialAt, FitsAll}
 use Rattle.meaning.specs.Table.{ends}
-use Rattle.meaning.specs.Cases.{_upTo_, P}
+use Rattle.meaning.specs.Cases.{_through_, P}
 use Rattle.meaning.proofs.Claims.{ends-ascend}
 use Rattle.file.specs.Refusals.{Outcome, done, refused}
 use Rattle.file.specs.Format.{E, R, N, lengthFor, fromOf, toOf, credentialIn, credentials}
 use Rattle.file.specs.Reading.{reading, read}
 use Rattle.file.specs.Values.{Read, foundIn}
 use Rattle.file.specs.Conditions.{Accepted, Refused}
-use Rattle.file.specs.Samples.{p, kinds}
+use Rattle.file.specs.Samples.{p, kinds, dated, rightDates, wrongDates}
 use Rattle.file.specs.declared.Found.the-variants as F
 use Rattle.file.proofs.Refusals as Refusals
 use Rattle.file.proofs.Credentials as Credentials
@@ -48,8 +49,12 @@ module _ (f : List ℕ) where
     pub within-format : FitsAll (credentials f)
     within-format = Accepting.accepted-fits f a
 
-    -- The ends of an accepted file are exactly its from and to values, ascending, each once.
-    pub accepted-ends : (x : ℕ) → Mem x (ends (credentials f)) ↔ ((i : ℕ) × (i < N f) × ((x ≡ fromOf f i) ⊎ (x ≡ toOf f i)))
+    -- A credential of an accepted file covers exactly the minutes from its `from` to its `to`, both included.
+    pub accepted-covers : (i : ℕ) → i < N f → (m : ℕ) → T (covers (credentialIn f i .period) m) ↔ ((fromOf f i ≤ m) × (m ≤ toOf f i))
+    accepted-covers = Accepting.accepted-covers f a
+
+    -- The ends of an accepted file are exactly its from values and its to values plus one, ascending, each once.
+    pub accepted-ends : (x : ℕ) → Mem x (ends (credentials f)) ↔ ((i : ℕ) × (i < N f) × ((x ≡ fromOf f i) ⊎ (x ≡ toOf f i + 1)))
     accepted-ends = Accepting.accepted-ends f a
 
     pub accepted-ends-ascend : Ascending (λ (x y : ℕ). x < y) (ends (credentials f))
@@ -82,14 +87,23 @@ p-read = refl
 pub p-accepted : Accepted p
 p-accepted = accepted-exact p {A = ℕ} 0 .0 p-read
 
+-- At the bounds of 7: a period of one minute passes, and so does one up to the last minute; from above to is refused, and so is the largest number as to.
+pub right-dates : map (λ (d : List ℕ). read {A = ℕ} (dated d) 0) rightDates ≡ done 0 ∷ done 0 ∷ done 0 ∷ done 0 ∷ []
+unfolding reading credentials
+right-dates = refl
+
+pub wrong-dates : map (λ (d : List ℕ). read {A = ℕ} (dated d) 0) wrongDates ≡ refused 7 1 ∷ refused 7 1 ∷ refused 7 1 ∷ refused 7 1 ∷ []
+unfolding reading credentials
+wrong-dates = refl
+
 -- The sample of all kinds is read as these credentials, and is not refused.
 pub kinds-credentials : credentials kinds ≡
-    1 · 2 ⟵ set (2 ^ 3) during 0x14131211 upTo 0x18171615
-    ∷ 4 · 5 ⟵ role (6 · 7) during 0x24232221 upTo 0x28272625
-    ∷ 8 · 9 ⟵ link (10 · 11) 12 during 0x34333231 upTo 0x38373635
-    ∷ 13 · 14 ⟵ 15 · 16 ∩ 17 · 18 during 0x44434241 upTo 0x48474645
-    ∷ 19 · 20 ⟵ 21 · 22 ⊙ 23 · 24 during 0x54535251 upTo 0x58575655
-    ∷ 25 · 26 ⟵ 27 · 28 ⊗ 29 · 30 during 0x64636261 upTo 0x68676665
+    1 · 2 ⟵ set (2 ^ 3) during 0x14131211 through 0x18171615
+    ∷ 4 · 5 ⟵ role (6 · 7) during 0x24232221 through 0x28272625
+    ∷ 8 · 9 ⟵ link (10 · 11) 12 during 0x34333231 through 0x38373635
+    ∷ 13 · 14 ⟵ 15 · 16 ∩ 17 · 18 during 0x44434241 through 0x48474645
+    ∷ 19 · 20 ⟵ 21 · 22 ⊙ 23 · 24 during 0x54535251 through 0x58575655
+    ∷ 25 · 26 ⟵ 27 · 28 ⊗ 29 · 30 during 0x64636261 through 0x68676665
     ∷ []
 unfolding credentials
 kinds-credentials = refl

@@ -1,6 +1,7 @@
 pub mod First
 pub mod Uses
 pub mod Sizes
+pub mod Dating
 pub mod Faults
 pub mod Rows
 pub mod Readable

@@ -13,8 +13,9 @@ use Rattle.meaning.specs.Table.{ends}
 use Rattle.meaning.proofs.Tests.{and-in, and-left, and-right, eq-in, all-out}
 use Rattle.file.specs.Refusals.{RefusalRow, Outcome, done, refused, first, _when_, _at_when_}
 use Rattle.file.specs.Format.{E, R, N, lengthFor, field, fromOf, toOf, credentials}
-use Rattle.file.specs.Reading.{between, uses, inRange, zeros, headRows, credentialRows, endsRow, reading, read}
-use Rattle.file.specs.Conditions.{Limits, Head, Ranges, Zeros, Good, GoodBelow, Accepted, Reached, Refused, short, limits, wrongLength, kind, range, unused, period, tooManyEnds}
+use Rattle.file.specs.Reading.{between, uses, inRange, zeros, undated, headRows, credentialRows, endsRow, reading, read}
+use Rattle.file.proofs.Dating.{undated-in, not-both, dated-or-not}
+use Rattle.file.specs.Conditions.{Limits, Head, Ranges, Zeros, Dated, Undated, Good, GoodBelow, Accepted, Reached, Refused, short, limits, wrongLength, kind, range, unused, period, tooManyEnds}
 
 -- ---- the first row that holds
 
@@ -112,7 +113,7 @@ module _ (f : List ℕ) where
   zerosRow i = 6 at i when (not (zeros f i))
 
   abbrev periodRow : ℕ → RefusalRow
-  periodRow i = 7 at i when (leb (toOf f i) (fromOf f i))
+  periodRow i = 7 at i when (undated f i)
 
   -- the rows of n credentials from i on, and then the row of 8
   abbrev rowsFrom : ℕ → ℕ → List RefusalRow
@@ -145,8 +146,8 @@ module _ {A : Type 0} (a : A) (f : List ℕ) where
     zeros-pass : Zeros f i → first (zerosRow f i ∷ rows) a ≡ first rows a
     zeros-pass z = pass a (zerosRow f i) rows (λ t. T-not (zeros f i) t (zeros-in f i z))
 
-    period-passes : fromOf f i < toOf f i → first (periodRow f i ∷ rows) a ≡ first rows a
-    period-passes h = pass a (periodRow f i) rows (λ t. omega (arith, leb→le (toOf f i) (fromOf f i) t))
+    period-passes : Dated f i → first (periodRow f i ∷ rows) a ≡ first rows a
+    period-passes h = pass a (periodRow f i) rows (not-both f i h)
 
   good-passes : (i : ℕ) → Good f i → (rows : List RefusalRow) → first (credentialRows f i ++ rows) a ≡ first rows a
   good-passes i g rows =
@@ -212,7 +213,7 @@ module _ {A : Type 0} (a : A) (f : List ℕ) where
       let x = reached-read i r in
       let rows = rowsFrom f (suc i) (x .0) in
       x .1 ∙ kind-passes i (rangeRow f i ∷ zerosRow f i ∷ periodRow f i ∷ rows) k ∙ range-passes i (zerosRow f i ∷ periodRow f i ∷ rows) s
-      ∙ zeros-pass i (periodRow f i ∷ rows) z ∙ give a (periodRow f i) rows (le→leb (toOf f i) (fromOf f i) h)
+      ∙ zeros-pass i (periodRow f i ∷ rows) z ∙ give a (periodRow f i) rows (undated-in f i h)
   refused-read (tooManyEnds h g l) =
       good-read (N f) 0 h (omega arith) g ∙ give a (endsRow f) [] (lt→ltb 64 (length (ends (credentials f))) l)
 
@@ -240,12 +241,12 @@ module _ (f : List ℕ) where
       Result : Type 0
       Result = Good f i ⊎ ((n p : ℕ) × Refused f n p)
 
-      by-period : field f i 0 ≤ 5 → Ranges f i → Zeros f i → (fromOf f i < toOf f i) ⊎ (toOf f i ≤ fromOf f i) → Result
+      by-period : field f i 0 ≤ 5 → Ranges f i → Zeros f i → Dated f i ⊎ Undated f i → Result
       by-period k s z (inl h) = inl (record { kind = k; ranges = s; zeros = z; period = h })
       by-period k s z (inr h) = inr (7, i, period i r k s z h)
 
       by-zeros : field f i 0 ≤ 5 → Ranges f i → Zeros f i ⊎ (¬ Zeros f i) → Result
-      by-zeros k s (inl z) = by-period k s z (less (fromOf f i) (toOf f i))
+      by-zeros k s (inl z) = by-period k s z (dated-or-not f i)
       by-zeros k s (inr z) = inr (6, i, unused i r k s z)
 
       by-range : field f i 0 ≤ 5 → Ranges f i ⊎ (¬ Ranges f i) → Result

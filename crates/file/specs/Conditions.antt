@@ -1,5 +1,6 @@
--- Document 01's conditions for refusals 1 to 8, in propositions: when each is given, and when none is.
+-- The documents' conditions for refusals 1 to 8, in propositions: when each is given, and when none is.
 use mathlib.Core.Path.{_≡_}
+use mathlib.Core.Logic.{_⊎_}
 use mathlib.Core.List.{List, List·Memᴰ as Mem}
 use Prim.Native.Nat.{ℕ, _<_, _≤_}
 use lib.ListN.{length}
@@ -27,12 +28,21 @@ pub record Ranges (f : List ℕ) (i : ℕ) : Type 0 where
 abbrev pub Zeros : List ℕ → ℕ → Type 0
 Zeros f i = (j : ℕ) → Mem j (uses (field f i 0) .unused) → field f i j ≡ 0
 
+-- from is not above to, and to is a minute
+pub record Dated (f : List ℕ) (i : ℕ) : Type 0 where
+  pub order : fromOf f i ≤ toOf f i
+  pub minute : ¬ (toOf f i ≡ 4294967295)
+
+-- from is above to, or to is no minute
+abbrev pub Undated : List ℕ → ℕ → Type 0
+Undated f i = (toOf f i < fromOf f i) ⊎ (toOf f i ≡ 4294967295)
+
 -- credential i passes 4 to 7
 pub record Good (f : List ℕ) (i : ℕ) : Type 0 where
   pub kind : field f i 0 ≤ 5
   pub ranges : Ranges f i
   pub zeros : Zeros f i
-  pub period : fromOf f i < toOf f i
+  pub period : Dated f i
 
 abbrev pub GoodBelow : List ℕ → ℕ → Type 0
 GoodBelow f n = (i : ℕ) → i < n → Good f i
@@ -57,5 +67,5 @@ pub data Refused (f : List ℕ) : ℕ → ℕ → Type 0 where
   kind : (i : ℕ) → Reached f i → 5 < field f i 0 → Refused f 4 i
   range : (i : ℕ) → Reached f i → field f i 0 ≤ 5 → ¬ Ranges f i → Refused f 5 i
   unused : (i : ℕ) → Reached f i → field f i 0 ≤ 5 → Ranges f i → ¬ Zeros f i → Refused f 6 i
-  period : (i : ℕ) → Reached f i → field f i 0 ≤ 5 → Ranges f i → Zeros f i → toOf f i ≤ fromOf f i → Refused f 7 i
+  period : (i : ℕ) → Reached f i → field f i 0 ≤ 5 → Ranges f i → Zeros f i → Undated f i → Refused f 7 i
   tooManyEnds : Head f → GoodBelow f (N f) → 64 < length (ends (credentials f)) → Refused f 8 0

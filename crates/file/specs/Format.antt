@@ -44,6 +44,7 @@ periodAt f i = 6 + 8 * N f + 8 * i
 abbrev pub field : List ℕ → ℕ → ℕ → ℕ
 field f i j = byte f (statementAt i + j)
 
+-- the first and the last minute of the period of credential i
 abbrev pub fromOf : List ℕ → ℕ → ℕ
 fromOf f i = four f (periodAt f i)
 
@@ -85,9 +86,9 @@ meaningOf (Intersection Bs Ct) = roleNumber Bs ∩ roleNumber Ct
 meaningOf (Union Bs Ct) = roleNumber Bs ⊙ roleNumber Ct
 meaningOf (Disjoint Bs Ct) = roleNumber Bs ⊗ roleNumber Ct
 
--- `to` itself is not covered
+-- `to` itself is covered, so the period ends before the minute after it
 abbrev pub periodOf : List ℕ → ℕ → Period
-periodOf f i = record { from = fromOf f i; until = toOf f i }
+periodOf f i = record { from = fromOf f i; until = toOf f i + 1 }
 
 -- a statement without a body has no minutes; refusal 4 keeps it out of every file that is read
 abbrev pub withBody : ℕ → Period → Option D.Body → Credential

@@ -1,5 +1,5 @@
--- Refusals 1 to 8 of any bytes (document 01, 'Where each refusal is checked', stages head, credential, whole file).
-use mathlib.Core.Bool.{Bool, _&&_, not}
+-- Refusals 1 to 8 of any bytes (document 01, 'Where each refusal is checked', stages head, credential, whole file; 7 as document 02's request One has it).
+use mathlib.Core.Bool.{Bool, _&&_, _||_, not}
 use mathlib.Core.List.{List, [], _∷_, _++_}
 use Prim.Native.Nat.{ℕ}
 use lib.Dec.{eqb, leb, ltb}
@@ -44,13 +44,17 @@ inRange f i =
 abbrev pub zeros : List ℕ → ℕ → Bool
 zeros f i = all (λ j. eqb (field f i j) 0) (uses (field f i 0) .unused)
 
+-- from is above to, or to is the largest number, which is no minute
+abbrev pub undated : List ℕ → ℕ → Bool
+undated f i = ltb (toOf f i) (fromOf f i) || eqb (toOf f i) 4294967295
+
 -- 4 to 7 of the credential at position i
 abbrev pub credentialRows : List ℕ → ℕ → List RefusalRow
 credentialRows f i =
     4 at i when (ltb 5 (field f i 0))
     ∷ 5 at i when (not (inRange f i))
     ∷ 6 at i when (not (zeros f i))
-    ∷ 7 at i when (leb (toOf f i) (fromOf f i))
+    ∷ 7 at i when (undated f i)
     ∷ []
 
 -- credentials in file order, each through 4 to 7

@@ -1,5 +1,5 @@
--- Files as bytes: document 01's set P, and a file of all six kinds.
-use mathlib.Core.List.{List, [], _∷_}
+-- Files as bytes: document 01's set P, a file of all six kinds, and files at the bounds of refusal 7.
+use mathlib.Core.List.{List, [], _∷_, _++_}
 use Prim.Native.Nat.{ℕ}
 
 -- set P
@@ -29,3 +29,36 @@ kinds =
     ∷ 0x41 ∷ 0x42 ∷ 0x43 ∷ 0x44 ∷ 0x45 ∷ 0x46 ∷ 0x47 ∷ 0x48
     ∷ 0x51 ∷ 0x52 ∷ 0x53 ∷ 0x54 ∷ 0x55 ∷ 0x56 ∷ 0x57 ∷ 0x58
     ∷ 0x61 ∷ 0x62 ∷ 0x63 ∷ 0x64 ∷ 0x65 ∷ 0x66 ∷ 0x67 ∷ 0x68 ∷ []
+
+-- A file of two credentials, the second with these eight bytes as its period.
+abbrev pub dated : List ℕ → List ℕ
+dated period =
+    0x03 ∷ 0x00 ∷ 0x01 ∷ 0x00 ∷ 0x02 ∷ 0x00
+    ∷ 0x00 ∷ 0x00 ∷ 0x00 ∷ 0x01 ∷ 0x00 ∷ 0x00 ∷ 0x00 ∷ 0x00
+    ∷ 0x00 ∷ 0x00 ∷ 0x00 ∷ 0x02 ∷ 0x00 ∷ 0x00 ∷ 0x00 ∷ 0x00
+    ∷ 0x00 ∷ 0x00 ∷ 0x00 ∷ 0x00 ∷ 0x0A ∷ 0x00 ∷ 0x00 ∷ 0x00
+    ∷ period
+
+abbrev minute0 : List ℕ
+minute0 = 0x00 ∷ 0x00 ∷ 0x00 ∷ 0x00 ∷ []
+
+abbrev minute8 : List ℕ
+minute8 = 0x08 ∷ 0x00 ∷ 0x00 ∷ 0x00 ∷ []
+
+abbrev minute9 : List ℕ
+minute9 = 0x09 ∷ 0x00 ∷ 0x00 ∷ 0x00 ∷ []
+
+-- 4,294,967,294, and the number after it, which is no minute
+abbrev lastMinute : List ℕ
+lastMinute = 0xFE ∷ 0xFF ∷ 0xFF ∷ 0xFF ∷ []
+
+abbrev noMinute : List ℕ
+noMinute = 0xFF ∷ 0xFF ∷ 0xFF ∷ 0xFF ∷ []
+
+-- periods that pass 7, from and to: of one minute, and up to the last
+abbrev pub rightDates : List (List ℕ)
+rightDates = (minute9 ++ minute9) ∷ (minute0 ++ minute0) ∷ (minute0 ++ lastMinute) ∷ (lastMinute ++ lastMinute) ∷ []
+
+-- periods that do not
+abbrev pub wrongDates : List (List ℕ)
+wrongDates = (minute9 ++ minute8) ∷ (lastMinute ++ minute0) ∷ (minute0 ++ noMinute) ∷ (noMinute ++ noMinute) ∷ []

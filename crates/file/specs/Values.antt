@@ -10,12 +10,13 @@ use Rattle.meaning.specs.Lists.{if, any}
 use Rattle.meaning.specs.Credentials as M
 use Rattle.meaning.specs.Credentials.{_⟵_, _during_}
 use Rattle.file.specs.Refusals.{RefusalRow, Outcome, first, numberOf, placeOf}
-use Rattle.file.specs.Format.{statedBy, credentialIn, E, R, N, lengthFor, field, roleOf, roleNumber, meaningOf, bodyIn, periodOf}
+use Rattle.file.specs.Format.{statedBy, credentialIn, E, R, N, lengthFor, field, fromOf, toOf, roleOf, roleNumber, meaningOf, bodyIn, periodOf}
 use Rattle.file.specs.Reading.{uses, headRows, credentialRows}
 use Rattle.file.specs.declared.Used.{Used}
 use Rattle.file.specs.declared.Head.{Head}
 use Rattle.file.specs.declared.Refusal.{Refusal}
 use Rattle.file.specs.declared.Period.{Period}
+use Rattle.file.specs.declared.Dates.{Dates}
 use Rattle.file.specs.declared.Credential.{Credential}
 use Rattle.file.specs.declared.Body.{Body}
 use Rattle.file.specs.declared.Found as D
@@ -61,6 +62,10 @@ pub record Stated (f : List ℕ) (i : ℕ) : Type 0 where
   pub few : N f ≤ 256
   pub long : length f ≡ lengthFor (N f)
   pub kind : field f i 0 ≤ 5
+
+-- from and to of credential i, and its period
+abbrev pub datesIn : List ℕ → ℕ → Dates
+datesIn f i = record { from = fromOf f i; to = toOf f i }
 
 abbrev pub periodIn : List ℕ → ℕ → Period
 periodIn f i = record { from = periodOf f i .from; until = periodOf f i .until }

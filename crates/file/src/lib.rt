@@ -5,8 +5,8 @@ ghost use lib.ListN.{length};
 ghost use mathlib.Core.Bool.{_&&_};
 ghost use Rattle.meaning.specs.Credentials.{_·_};
 ghost use Rattle.file.specs.Format.{two, four, N};
-ghost use Rattle.file.specs.Reading.{between};
-ghost use Rattle.file.specs.Values.{headIn, noSizes, Headed, periodIn};
+ghost use Rattle.file.specs.Reading.{between, credentialRows};
+ghost use Rattle.file.specs.Values.{headIn, noSizes, firstNumber, Headed, datesIn, periodIn};
 
 // An entity's number; never a role name's.
 pub struct Entity(pub u8);
@@ -46,6 +46,12 @@ pub enum Found {
 pub struct Period {
     pub from: u32,
     pub until: u32,
+}
+
+// The first and the last minute of a period, as the file has them.
+pub struct Dates {
+    pub from: u32,
+    pub to: u32,
 }
 
 // The sizes of a file that passes 1 to 3; otherwise the refusal's number and no sizes.
@@ -94,16 +100,28 @@ pub fn read_head(file: &[u8]) -> Head
     }
 }
 
-// The period of credential i.
-pub fn read_period(file: &[u8], h: Head, i: usize) -> Period
+// From and to of credential i.
+pub fn dates_at(file: &[u8], h: Head, i: usize) -> Dates
     requires { ⌜ (Headed (now file) h) × (i < N (now file)) ⌝ }
-    ensures { λ r. ⌜ r ≡ periodIn (now (file .entry)) i ⌝ }
+    ensures { λ r. ⌜ r ≡ datesIn (now (file .entry)) i ⌝ }
 {
     let n = h.credentials;
     let p = 6 + 8 * n + 8 * i;
-    Period {
+    Dates {
         from: four_at(file, p),
-        until: four_at(file, p + 4),
+        to: four_at(file, p + 4),
+    }
+}
+
+// The period of credential i, which passes 4 to 7, so that to + 1 has 32 bits.
+pub fn read_period(file: &[u8], h: Head, i: usize) -> Period
+    requires { ⌜ (Headed (now file) h) × (i < N (now file)) × (firstNumber (credentialRows (now file) i) ≡ 0) ⌝ }
+    ensures { λ r. ⌜ r ≡ periodIn (now (file .entry)) i ⌝ }
+{
+    let v = dates_at(file, h, i);
+    Period {
+        from: v.from,
+        until: v.to + 1,
     }
 }
 

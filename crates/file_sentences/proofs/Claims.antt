@@ -5,7 +5,7 @@ use mathlib.Core.List.{List}
 use Prim.Native.Nat.{ℕ}
 use native.Mathlib.Omega.{arith}
 use Rattle.file.specs.Conditions.{Refused, short, limits, wrongLength, kind, range, unused, period, tooManyEnds}
-use Rattle.file_sentences.specs.Named.{EntityNamed, NameNamed, ByteNamed}
+use Rattle.file_sentences.specs.Named.{EntityNamed, NameNamed, ByteNamed, PeriodNamed}
 use Rattle.file_sentences.proofs.Naming as Naming
 
 by-5 : {f : List ℕ} {n i : ℕ} → Refused f n i → n ≡ 5 → EntityNamed f i ⊎ NameNamed f i
@@ -28,6 +28,16 @@ by-6 {f} (unused i r h k l) e = Naming.byte-named f i l
 by-6 (period i r h k l m) e = absurd (omega arith)
 by-6 (tooManyEnds h k l) e = absurd (omega arith)
 
+by-7 : {f : List ℕ} {n i : ℕ} → Refused f n i → n ≡ 7 → PeriodNamed f i
+by-7 (short h) e = absurd (omega arith)
+by-7 (limits h k) e = absurd (omega arith)
+by-7 (wrongLength h k l) e = absurd (omega arith)
+by-7 (kind i r h) e = absurd (omega arith)
+by-7 (range i r h k) e = absurd (omega arith)
+by-7 (unused i r h k l) e = absurd (omega arith)
+by-7 {f} (period i r h k l m) e = Naming.period-named f i m
+by-7 (tooManyEnds h k l) e = absurd (omega arith)
+
 -- A file that is refused by 5 has the entity that the sentence names at fault, or, where all entities are in range, the name.
 pub range-named : (f : List ℕ) (i : ℕ) → Refused f 5 i → EntityNamed f i ⊎ NameNamed f i
 range-named f i r = by-5 r refl
@@ -35,3 +45,7 @@ range-named f i r = by-5 r refl
 -- A file that is refused by 6 has the byte that the sentence names at fault.
 pub byte-named : (f : List ℕ) (i : ℕ) → Refused f 6 i → ByteNamed f i
 byte-named f i r = by-6 r refl
+
+-- A file that is refused by 7 has what the sentence names: from above to, or the largest number as to.
+pub period-named : (f : List ℕ) (i : ℕ) → Refused f 7 i → PeriodNamed f i
+period-named f i r = by-7 r refl

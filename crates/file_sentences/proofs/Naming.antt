@@ -1,23 +1,24 @@
--- What the sentences of 5 and 6 name is at fault.
+-- What the sentences of 5, 6 and 7 name is at fault.
 use mathlib.Core.Path.{_≡_, refl, ap, subst}
 use mathlib.Core.Bool.{Bool, true, false, not}
 use mathlib.Core.Logic.{_⊎_, inl, inr, ⊎-elim}
 use mathlib.Core.List.{List, [], _∷_, List·Memᴰ as Mem, List·Memᴰ·cases-cons, List·Memᴰ·not-nil}
 use Prim.Native.Nat.{ℕ, _≤_, _<_}
 use native.Mathlib.Omega.{arith}
-use borrow.Author.Tests.{leb-true, leb-false, eqb-true, eqb-false, eq-eqb, ne-eqb, not-true, not-false}
+use borrow.Author.Tests.{leb-true, leb-false, ltb-true, ltb-false, eqb-true, eqb-false, eq-eqb, ne-eqb, not-true, not-false}
 use lib.Dec.{T, eqb, leb, ltb, ltb→lt}
 use Rattle.meaning.specs.Lists.{if, all}
 use Rattle.meaning.proofs.Tests.{and-left, and-right}
 use Rattle.text.specs.Ascii.{ascii}
-use Rattle.file.specs.Format.{E, R, field}
+use Rattle.text.specs.Lines.{decimal}
+use Rattle.file.specs.Format.{E, R, field, fromOf, toOf}
 use Rattle.file.specs.Reading.{uses}
-use Rattle.file.specs.Conditions.{Ranges, Zeros}
+use Rattle.file.specs.Conditions.{Ranges, Zeros, Undated}
 use Rattle.file.proofs.Uses.{by-kind}
 use Rattle.sentences.specs.Words.{_then_, noEntity, noName}
 use Rattle.sentences.proofs.First.{Found, Absent, found-or}
-use Rattle.file_sentences.specs.FileSentences.{strayEntity, strayName, strayByte, rangeText}
-use Rattle.file_sentences.specs.Named.{EntityNamed, NameNamed, ByteNamed}
+use Rattle.file_sentences.specs.FileSentences.{strayEntity, strayName, strayByte, rangeText, periodText}
+use Rattle.file_sentences.specs.Named.{EntityNamed, NameNamed, ByteNamed, PeriodNamed}
 
 -- 0 is in no list of positive numbers
 no-zero : (l : List ℕ) → T (all (λ x. ltb 0 x) l) → Mem 0 l → ⊥
@@ -84,3 +85,16 @@ module _ (f : List ℕ) (i : ℕ) where
       (λ r. record { at = strayByte f i; unused = r .in-list; nonzero = eqb-false _ _ (not-true _ (r .taken)); says = refl })
       (λ a. absurd (n (λ j m. eqb-true (field f i j) 0 (not-false _ (a .each j m)))))
       (found-or stray (uses (field f i 0) .unused))
+
+  -- the sentence of 7, by whether from is above to
+  abbrev datesText : Bool → List ℕ
+  datesText b =
+      if b (ascii "from " then decimal (fromOf f i) then ascii " is above to " then decimal (toOf f i))
+      (ascii "to " then decimal (toOf f i) then ascii ", the last minute is 4294967294")
+
+  pub period-named : Undated f i → PeriodNamed f i
+  period-named u = go (ltb (toOf f i) (fromOf f i)) refl
+    where
+      go : (b : Bool) → ltb (toOf f i) (fromOf f i) ≡ b → PeriodNamed f i
+      go true h = inl (ltb-true (toOf f i) (fromOf f i) h, ap datesText h)
+      go false h = ⊎-elim (λ l. let g = ltb-false (toOf f i) (fromOf f i) h in absurd (omega arith)) (λ e. inr (e, ap datesText h)) u

@@ -89,15 +89,19 @@ pub unused-line : (i j x k : ℕ)
 unfolding sentence fileWords
 unused-line i j x k = refl
 
-pub period-line : (i x y : ℕ) → line 12 i x y 0 ≡ ofCredential i (ascii "from " then decimal x then ascii " is not below to " then decimal y)
+pub period-line : (i x y : ℕ) → line 12 i x y 0 ≡ ofCredential i (ascii "from " then decimal x then ascii " is above to " then decimal y)
 unfolding sentence fileWords
 period-line i x y = rw append-nil
 
-pub ends-line : line 13 0 0 0 0 ≡ ascii "the periods have more than 64 ends"
+pub last-line : (i y : ℕ) → line 13 i y 0 0 ≡ ofCredential i (ascii "to " then decimal y then ascii ", the last minute is 4294967294")
+unfolding sentence fileWords
+last-line i y = refl
+
+pub ends-line : line 14 0 0 0 0 ≡ ascii "the periods have more than 64 ends"
 unfolding sentence fileWords
 ends-line = refl
 
-pub memberships-line : line 14 0 0 0 0 ≡ ascii "more than 1024 memberships"
+pub memberships-line : line 15 0 0 0 0 ≡ ascii "more than 1024 memberships"
 unfolding sentence fileWords
 memberships-line = refl
 

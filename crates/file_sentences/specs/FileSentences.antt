@@ -63,7 +63,9 @@ unusedText f i =
 
 -- 7
 abbrev pub periodText : List ℕ → ℕ → List ℕ
-periodText f i = ascii "from " then decimal (fromOf f i) then ascii " is not below to " then decimal (toOf f i)
+periodText f i =
+    if (ltb (toOf f i) (fromOf f i)) (ascii "from " then decimal (fromOf f i) then ascii " is above to " then decimal (toOf f i))
+    (ascii "to " then decimal (toOf f i) then ascii ", the last minute is 4294967294")
 
 -- the refusals of a file at a place, and 10 of its table
 abbrev pub fileSayings : List ℕ → ℕ → List Saying

@@ -17,7 +17,8 @@ fileWords = linesOf (
     ∷ "credential #: entity #, the file has # {entity|entities}"
     ∷ "credential #: role name #, the file has # {role name|role names}"
     ∷ "credential #: byte # is #, kind # has 0 there"
-    ∷ "credential #: from # is not below to #"
+    ∷ "credential #: from # is above to #"
+    ∷ "credential #: to #, the last minute is 4294967294"
     ∷ "the periods have more than 64 ends"
     ∷ "more than 1024 memberships"
     ∷ [])

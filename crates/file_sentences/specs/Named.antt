@@ -1,13 +1,14 @@
--- What a sentence names is at fault: of refusals 5 and 6, which look for the first of several bytes.
+-- What a sentence names is at fault: of refusals 5 and 6, which look for the first of several bytes, and of 7, which has two.
 use mathlib.Core.Path.{_≡_}
+use mathlib.Core.Logic.{_⊎_}
 use mathlib.Core.List.{List, List·Memᴰ as Mem}
 use Prim.Native.Nat.{ℕ, _≤_, _<_}
 use Rattle.text.specs.Ascii.{ascii}
 use Rattle.text.specs.Lines.{decimal}
-use Rattle.file.specs.Format.{E, R, field}
+use Rattle.file.specs.Format.{E, R, field, fromOf, toOf}
 use Rattle.file.specs.Reading.{uses}
 use Rattle.sentences.specs.Words.{_then_, noEntity, noName}
-use Rattle.file_sentences.specs.FileSentences.{rangeText, unusedText}
+use Rattle.file_sentences.specs.FileSentences.{rangeText, unusedText, periodText}
 
 -- 5: a used entity that is not below E
 pub record EntityNamed (f : List ℕ) (i : ℕ) : Type 0 where
@@ -33,3 +34,9 @@ pub record ByteNamed (f : List ℕ) (i : ℕ) : Type 0 where
       unusedText f i
       ≡ ascii "byte " then decimal at then ascii " is " then decimal (field f i at) then ascii ", kind " then decimal (field f i 0)
       then ascii " has 0 there"
+
+-- 7: from is above to; or to is the largest number, which is no minute
+abbrev pub PeriodNamed : List ℕ → ℕ → Type 0
+PeriodNamed f i =
+    ((toOf f i < fromOf f i) × (periodText f i ≡ ascii "from " then decimal (fromOf f i) then ascii " is above to " then decimal (toOf f i)))
+    ⊎ ((toOf f i ≡ 4294967295) × (periodText f i ≡ ascii "to " then decimal (toOf f i) then ascii ", the last minute is 4294967294"))

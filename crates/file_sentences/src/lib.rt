@@ -33,7 +33,8 @@ pub fn file_line(out: &mut [u8; 256], file: &[u8], number: u32, place: u32) -> u
         credential #: entity #, the file has # {entity|entities}\n\
         credential #: role name #, the file has # {role name|role names}\n\
         credential #: byte # is #, kind # has 0 there\n\
-        credential #: from # is not below to #\n\
+        credential #: from # is above to #\n\
+        credential #: to #, the last minute is 4294967294\n\
         the periods have more than 64 ends\n\
         more than 1024 memberships\n",
         s,
@@ -53,8 +54,8 @@ fn said(file: &[u8], number: u32, place: u32) -> Sentence
         5 => range(file, place),
         6 => unused(file, place),
         7 => period(file, place),
-        8 => Sentence(13, [0; 4]),
-        10 => Sentence(14, [0; 4]),
+        8 => Sentence(14, [0; 4]),
+        10 => Sentence(15, [0; 4]),
         _ => Sentence(0, [0; 4]),
     }
 }
@@ -123,7 +124,12 @@ fn period(file: &[u8], place: u32) -> Sentence
 {
     let n = sentences::two_at(file, 4);
     let at = 6 + 8 * n as usize + 8 * place as usize;
-    Sentence(12, [place, four_at(file, at), four_at(file, at + 4), 0])
+    let from = four_at(file, at);
+    let to = four_at(file, at + 4);
+    if to < from {
+        return Sentence(12, [place, from, to, 0]);
+    }
+    Sentence(13, [place, to, 0, 0])
 }
 
 // Byte j of statement i; 0 after the end, as for all bytes here.

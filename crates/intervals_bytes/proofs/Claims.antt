@@ -59,7 +59,7 @@ module _ (f : List ℕ) (spans : ℕ) (b : List ℕ) where
     bounds-read small =
         let k = count-of-intervals .1 in
         ap (λ (o : Outcome ℕ). entries 4 (left o b written)) success
-        ∙ places-read (bounds (intervals es spans)) (omega (arith, length-bounds (intervals es spans))) (bounds-low f small spans)
+        ∙ places-read (bounds (intervals es spans)) (omega (arith, length-bounds (intervals es spans))) (bounds-low f small c spans)
 
     -- A minute lies in one of the pairs exactly when it lies in a span of the number.
     pub minutes-read : Bytes f → (m : ℕ) → T (any (λ v. covers v m) (pairsIn (entries 4 (intervalsBytes f spans b)))) ↔ T (inSpans es spans m)

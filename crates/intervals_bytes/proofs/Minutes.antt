@@ -14,6 +14,7 @@ use Rattle.meaning.proofs.Tests.{any-in}
 use Rattle.meaning.proofs.ListLaws.{place-in}
 use Rattle.meaning.proofs.Spans.{covers-in, span-out, in-spans}
 use Rattle.meaning.proofs.Claims.{interval-minutes, intervals-apart}
+use Rattle.file.specs.Conditions.{Accepted}
 use Rattle.file.specs.Format.{credentials}
 use Rattle.replies.specs.Interface.{Bytes}
 use Rattle.replies.proofs.Widths.{end-low}
@@ -30,7 +31,7 @@ bounds-below limit (v ∷ vs) h x (head e) = let k = h v (head refl) in omega ar
 bounds-below limit (v ∷ vs) h x (tail (head e)) = let k = h v (head refl) in omega arith
 bounds-below limit (v ∷ vs) h x (tail (tail m)) = bounds-below limit vs (λ w j. h w (tail j)) x m
 
-module _ (f : List ℕ) (small : Bytes f) (spans : ℕ) where
+module _ (f : List ℕ) (small : Bytes f) (accepted : Accepted f) (spans : ℕ) where
   abbrev es : List ℕ
   es = ends (credentials f)
 
@@ -42,7 +43,7 @@ module _ (f : List ℕ) (small : Bytes f) (spans : ℕ) where
       let t = any-in (λ (w : Period). covers w last) m (covers-in v last (omega arith) (omega arith)) in
       let (i, b, u) = in-spans es spans last .0 (interval-minutes (credentials f) spans last .0 t) in
       let (k, g, h) = span-out es i last u in
-      let e = end-low f small (getD es (suc i) 0) (place-in 0 es (suc i) (omega arith)) in
+      let e = end-low f small accepted (getD es (suc i) 0) (place-in 0 es (suc i) (omega arith)) in
       (omega arith, omega arith)
 
   pub bounds-low : (x : ℕ) → Mem x (bounds (intervals es spans)) → x < 256 ^ 4

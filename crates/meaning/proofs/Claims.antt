@@ -132,6 +132,6 @@ module _ (cs : List Credential) where
   pub intervals-apart : (spans : ℕ) → Apart (intervals (ends cs) spans)
   intervals-apart spans = Intervals.intervals-apart (ends cs) spans (Spans.ends-rising cs)
 
--- Document 01's cases K1 to K11, and those added to them, hold.
+-- Document 01's cases K1 to K11, as document 02's request One has them, and those added to them, hold.
 pub cases-hold : (c : Claim) → Mem c cases → Holds c
 cases-hold = Cases.rows-hold cases Cases.passed

@@ -1,4 +1,4 @@
--- Document 01's cases K1 to K11 and further ones, as rows of one table; each row is a claim with a test that computes.
+-- Document 01's cases K1 to K11, as document 02's request One has them, and further ones, as rows of one table; each row is a claim with a test that computes.
 use mathlib.Core.Path.{_≡_}
 use mathlib.Core.Bool.{Bool, true, false, _&&_, _||_, not}
 use mathlib.Core.List.{List, [], _∷_}
@@ -12,7 +12,12 @@ use Rattle.meaning.specs.Members.{member, has, level, closure, members}
 use Rattle.meaning.specs.Proofs.{Step, Shown, citesFirst, citesSecond, shownBy, allKeep, Proof, stepAt, bodyAt, RestsOn}
 use Rattle.meaning.specs.Table.{bit, Row, ends, table, intervals}
 
+infix 78 _through_
 infix 78 _upTo_
+-- a credential's period by its first and its last minute, which both count; and a half-open one, or an interval
+abbrev pub _through_ : ℕ → ℕ → Period
+a through b = record { from = a; until = suc b }
+
 abbrev pub _upTo_ : ℕ → ℕ → Period
 a upTo b = record { from = a; until = b }
 
@@ -141,11 +146,11 @@ row Ar X spans = record { role = Ar; set = X; spans = spans }
 
 -- set P, with the join of its third credential
 abbrev pub P : (ℕ → ℕ → Body) → List Credential
-P op = 0 · 0 ⟵ set (2 ^ 1) during 10 upTo 20 ∷ 0 · 0 ⟵ set (2 ^ 2) during 15 upTo 30 ∷ 0 · 1 ⟵ op (0 · 0) (0 · 0) during 0 upTo 18 ∷ []
+P op = 0 · 0 ⟵ set (2 ^ 1) during 10 through 20 ∷ 0 · 0 ⟵ set (2 ^ 2) during 15 through 30 ∷ 0 · 1 ⟵ op (0 · 0) (0 · 0) during 0 through 18 ∷ []
 
 -- the same period for every statement
 abbrev in10 : ℕ → Body → Credential
-in10 Ar e = Ar ⟵ e during 0 upTo 10
+in10 Ar e = Ar ⟵ e during 0 through 10
 
 -- Document 003, Example 1. F is entity 0; Alex, Betty, David, John, Emily are 1 to 5; students, activeSubject, student, phdStudent are names 0 to 3.
 abbrev pub example1 : List Credential
@@ -179,7 +184,7 @@ detour = in10 (0 · 0) (set 2) ∷ in10 (0 · 1) (set 2) ∷ in10 (0 · 0) (role
 
 -- the last minute there is
 abbrev late : List Credential
-late = 0 · 0 ⟵ set 2 during 4294967294 upTo 4294967295 ∷ []
+late = 0 · 0 ⟵ set 2 during 4294967294 through 4294967294 ∷ []
 
 -- ---- the table
 
@@ -193,20 +198,21 @@ unfoldable pub cases : List Claim
 cases =
     proof (P _⊗_) 15 (0 · 1) 6 2 k1Steps  -- K1
     ∷ proof (P _⊗_) 17 (0 · 1) 6 2 k1Steps  -- K2
-    ∷ none (P _⊗_) 18 (0 · 1) 6  -- K3
+    ∷ proof (P _⊗_) 18 (0 · 1) 6 2 k1Steps  -- K3: the last minute of credential 2
+    ∷ none (P _⊗_) 19 (0 · 1) 6  -- K3: the minute after it
     ∷ none (P _⊗_) 14 (0 · 1) 6  -- K4
     ∷ proof (P _⊙_) 10 (0 · 1) 2 2 (step 0 0 0 2 ∷ step 2 0 0 2 ∷ [])  -- K5
     ∷ none (P _⊗_) 10 (0 · 1) 2  -- K6
     ∷ empty (in10 (0 · 0) (role (1 · 0)) ∷ in10 (1 · 0) (role (0 · 0)) ∷ [])  -- K7
-    ∷ times (in10 (0 · 0) (role (1 · 0)) ∷ 1 · 0 ⟵ set 4 during 0 upTo 5 ∷ 1 · 0 ⟵ set 4 during 5 upTo 10 ∷ []) (0 · 0) 4 (0 upTo 10 ∷ [])  -- K8
+    ∷ times (in10 (0 · 0) (role (1 · 0)) ∷ 1 · 0 ⟵ set 4 during 0 through 5 ∷ 1 · 0 ⟵ set 4 during 5 through 10 ∷ []) (0 · 0) 4 (0 upTo 11 ∷ [])  -- K8
     ∷ emptyIn pairLinked (0 · 0)  -- K9
     ∷ sizeIn pairLinked (1 · 0) 1  -- K9: 1.0 has one set
     ∷ proof pairLinked 5 (1 · 0) 6 2 (step 1 0 0 2 ∷ step 2 0 0 4 ∷ step 3 0 1 6 ∷ [])  -- K9: which is {1,2}
     ∷ size example1 24  -- K10
     ∷ sizeIn example1 (0 · 1) 12  -- K10
     ∷ empty []  -- K11
-    -- set P whole: document 01 prints its ends and spans
-    ∷ whole (P _⊗_) (0 ∷ 10 ∷ 15 ∷ 18 ∷ 20 ∷ 30 ∷ []) (row (0 · 0) 2 14 ∷ row (0 · 0) 4 28 ∷ row (0 · 1) 6 4 ∷ [])
+    -- set P whole: the documents print its ends and spans
+    ∷ whole (P _⊗_) (0 ∷ 10 ∷ 15 ∷ 19 ∷ 21 ∷ 31 ∷ []) (row (0 · 0) 2 14 ∷ row (0 · 0) 4 28 ∷ row (0 · 1) 6 4 ∷ [])
     -- {1,2} and {2,3} share 2: ⊗ gives nothing, ⊙ gives {1,2,3}
     ∷ none (overlapping _⊗_) 5 (0 · 0) 14
     ∷ proof (overlapping _⊙_) 5 (0 · 0) 14 3 (step 3 0 0 2 ∷ step 4 0 0 4 ∷ step 5 0 0 8 ∷ step 1 0 1 6 ∷ step 2 1 2 12 ∷ step 0 3 4 14 ∷ [])
@@ -216,11 +222,13 @@ cases =
     -- an intersection gives the set that both roles have and no other
     ∷ proof shared 5 (0 · 0) 4 2 (step 2 0 0 4 ∷ step 3 0 0 4 ∷ step 0 0 1 4 ∷ [])
     ∷ sizeIn shared (0 · 0) 1
-    -- a period that ends at 4,294,967,295 covers the last minute
+    -- a period of one minute, the last one there is
     ∷ proof late 4294967294 (0 · 0) 2 1 (step 0 0 0 2 ∷ [])
     ∷ none late 4294967295 (0 · 0) 2
+    -- periods that touch make one interval
+    ∷ times (0 · 0 ⟵ set 2 during 0 through 4 ∷ 0 · 0 ⟵ set 2 during 5 through 9 ∷ []) (0 · 0) 2 (0 upTo 10 ∷ [])
     -- spans that do not touch stay apart, and a minute between them is not covered
-    ∷ times (0 · 0 ⟵ set 2 during 0 upTo 5 ∷ 0 · 0 ⟵ set 2 during 6 upTo 10 ∷ []) (0 · 0) 2 (0 upTo 5 ∷ 6 upTo 10 ∷ [])
+    ∷ times (0 · 0 ⟵ set 2 during 0 through 4 ∷ 0 · 0 ⟵ set 2 during 6 through 9 ∷ []) (0 · 0) 2 (0 upTo 5 ∷ 6 upTo 10 ∷ [])
     -- the last step of K1 rests on both others; a step between them that is not cited is idle, and the proof passes all the same
     ∷ rests (P _⊗_) k1Steps 2 0
     ∷ rests (P _⊗_) k1Steps 2 1

@@ -1,6 +1,6 @@
 -- Document 01's notation as bytes of UTF-8: roles, bodies, and credentials as lines.
 use mathlib.Core.List.{List, [], _∷_, _++_}
-use Prim.Native.Nat.{ℕ}
+use Prim.Native.Nat.{ℕ, _-_}
 use lib.Count.{trailingZeros}
 use Rattle.text.specs.Lines.{decimal, field, label}
 use Rattle.file.specs.declared.Role.{Role}
@@ -44,9 +44,9 @@ bodyText (Disjoint Bs Ct) = roleText Bs ++ (joinsApart ++ roleText Ct)
 abbrev pub statementText : Role → Body → List ℕ
 statementText Ar e = roleText Ar ++ (arrow ++ bodyText e)
 
--- from..to and a newline
+-- from..to, as the file has them, and a newline
 abbrev pub periodText : Period → List ℕ
-periodText v = field (v .from) 46 ++ (46 ∷ field (v .until) 10)
+periodText v = field (v .from) 46 ++ (46 ∷ field (v .until - 1) 10)
 
 -- position, head, body, period
 abbrev pub credentialLine : ℕ → Credential → List ℕ

@@ -1,7 +1,8 @@
 // Credentials as lines of text, in document 01's notation (UTF-8). A function that writes a line returns how many bytes it has, and leaves
 // the bytes after it as they were.
 ghost use mathlib.Core.List.{_++_};
-ghost use Prim.Native.Nat.{_+_, _≤_};
+ghost use mathlib.Core.Path.{_≡_};
+ghost use Prim.Native.Nat.{_+_, _-_, _≤_};
 ghost use lib.ListN.{length};
 ghost use Rattle.text.specs.Lines.{Put, Lined};
 ghost use Rattle.notation.specs.Notation.{roleText, linkedText, bodyText, statementText, periodText, credentialLine};
@@ -78,12 +79,24 @@ fn put_statement(out: &mut [u8], at: usize, head: Role, body: Body) -> usize
     put_body(out, body_at, body)
 }
 
+// The last minute of a period that has minutes.
+fn last_of(period: Period) -> u32
+    ensures { λ r. ⌜ r ≡ period .until - 1 ⌝ }
+{
+    if period.until == 0 {
+        0
+    } else {
+        period.until - 1
+    }
+}
+
 // from..to
 fn put_period(out: &mut [u8], at: usize, period: Period) -> usize
     requires { ⌜ at + 23 ≤ length (now out) ⌝ }
     ensures { λ r. ⌜ Put (now (out .entry)) (now (out .exit)) at r 23 (periodText period) ⌝ }
 {
+    let to = last_of(period);
     let dot = text::put_field(out, at, period.from, b'.');
     let to_at = text::put_byte(out, dot, b'.');
-    text::put_field(out, to_at, period.until, b'\n')
+    text::put_field(out, to_at, to, b'\n')
 }

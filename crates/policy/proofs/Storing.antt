@@ -22,7 +22,7 @@ module _ (p : List ℕ) (i w v : ℕ) where
 
 -- w and v are the numbers as the code has them
 pub one-decoded : (f p : List ℕ) (i w v : ℕ) → length p ≡ 512 → i < 256 → firstNumber (credentialRows f i) ≡ 0 → w ≡ wordIn f i
-    → v ≡ periodNumber (fromOf f i) (toOf f i) → toOf f i < 4294967296 → OneDecoded f i p (stored p i w v) 0
+    → v ≡ periodNumber (fromOf f i) (toOf f i + 1) → toOf f i + 1 < 4294967296 → OneDecoded f i p (stored p i w v) 0
 one-decoded f p i w v l h e a b n = record {
   number = sym e;
   stored = λ z. record { passed = e; statement = statement-stored p i w v l h ∙ a; period = period-stored p i w v l h ∙ b; narrow = n };

@@ -40,8 +40,8 @@ stored p i statement period = set (set p (2 * i) statement) (2 * i + 1) period
 pub record Worded (f p : List ℕ) (i : ℕ) : Type 0 where
   pub passed : firstNumber (credentialRows f i) ≡ 0
   pub statement : getD p (2 * i) 0 ≡ wordIn f i
-  pub period : getD p (2 * i + 1) 0 ≡ periodNumber (fromOf f i) (toOf f i)
-  pub narrow : toOf f i < 4294967296
+  pub period : getD p (2 * i + 1) 0 ≡ periodNumber (fromOf f i) (toOf f i + 1)
+  pub narrow : toOf f i + 1 < 4294967296
 
 -- r is the number of the refusal of credential i, or the credential was stored after those below it
 pub record OneDecoded (f : List ℕ) (i : ℕ) (p p′ : List ℕ) (r : ℕ) : Type 0 where

@@ -1,4 +1,4 @@
--- Document 01's conditions for the refusals of querying, in propositions: when each is given.
+-- The documents' conditions for the refusals of querying, in propositions: when each is given.
 use mathlib.Core.List.{List}
 use Prim.Native.Nat.{ℕ, _<_, _≤_}
 use lib.ListN.{length}

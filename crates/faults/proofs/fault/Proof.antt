@@ -1,9 +1,10 @@
 -- `fault` meets its contract: each return is the first of the rows that holds.
 use mathlib.Core.Path.{_≡_, sym, _∙_, ap, subst⁻¹}
+use mathlib.Core.Logic.{inl, inr}
 use Prim.Native.Nat.{ℕ, _<_, _≤_}
 use borrow.Author.Tests.{not-true, not-false}
 use mathlib.Core.Bool.{true}
-use Rattle.file.specs.declared.Period.{Period}
+use Rattle.file.specs.declared.Dates.{Dates}
 use Rattle.file.specs.Format.{fromOf, toOf}
 use Rattle.file.specs.Reading.{inRange, zeros}
 use Rattle.file.specs.Values.{Stated}
@@ -53,32 +54,45 @@ returns-3 c =
     (fault-6 (a .file .now) (a .i) (kind-known (c .before .before .before .before) .kind) (range-known (c .before .before))
     (sym (c .before .zeroed .ensures) ∙ not-true _ (c .if3 .taken)))
 
-read-period-requires : tie.Need-read-period-requires
-read-period-requires c κs = search needs
+dates-at-requires : tie.Need-dates-at-requires
+dates-at-requires c κs = search needs
 
 returns-4 : tie.Need-returns-4
 returns-4 c =
     let s = c .before .before .before .before .before .before .before .before .before .before in
     let f = s .args .file .now in
     let i = s .args .i in
-    let v = c .before .before .read-period .ensures in
-    let a = ap (λ (x : Period). x .from) v in
-    let b = ap (λ (x : Period). x .until) v in
-    let t : (toOf f i ≤ fromOf f i) = rw (← a, ← b) (c .if4 .taken) in
+    let v = c .before .before .dates-at .ensures in
+    let a = ap (λ (x : Dates). x .from) v in
+    let b = ap (λ (x : Dates). x .to) v in
+    let t : (toOf f i < fromOf f i) = rw (← a, ← b) (c .if4 .taken) in
     let z : zeros f i ≡ true = sym (c .before .before .before .before .zeroed .ensures) ∙ not-false _ (c .before .before .before .if3 .left) in
-    sym (fault-7 f i (kind-known (c .before .before .before .before .before .before .before) .kind) (range-known (c .before .before .before .before .before)) z t)
+    sym (fault-7 f i (kind-known (c .before .before .before .before .before .before .before) .kind) (range-known (c .before .before .before .before .before)) z (inl t))
 
 returns-5 : tie.Need-returns-5
 returns-5 c =
-    let s = c .before .before .before .before .before .before .before .before .before .before in
+    let s = c .before .before .before .before .before .before .before .before .before .before .before .before in
     let f = s .args .file .now in
     let i = s .args .i in
-    let v = c .before .before .read-period .ensures in
-    let a = ap (λ (x : Period). x .from) v in
-    let b = ap (λ (x : Period). x .until) v in
-    let t : (fromOf f i < toOf f i) = rw (← a, ← b) (c .if4 .left) in
-    let z : zeros f i ≡ true = sym (c .before .before .before .before .zeroed .ensures) ∙ not-false _ (c .before .before .before .if3 .left) in
-    sym (fault-none f i (kind-known (c .before .before .before .before .before .before .before) .kind) (range-known (c .before .before .before .before .before)) z t)
+    let v = c .before .before .before .before .dates-at .ensures in
+    let a = ap (λ (x : Dates). x .from) v in
+    let b = ap (λ (x : Dates). x .to) v in
+    let z : zeros f i ≡ true = sym (c .before .before .before .before .before .before .zeroed .ensures) ∙ not-false _ (c .before .before .before .before .before .if3 .left) in
+    let t : toOf f i ≡ 4294967295 = rw (← b) (c .if5 .taken) in
+    sym (fault-7 f i (kind-known (c .before .before .before .before .before .before .before .before .before) .kind) (range-known (c .before .before .before .before .before .before .before)) z (inr t))
+
+returns-6 : tie.Need-returns-6
+returns-6 c =
+    let s = c .before .before .before .before .before .before .before .before .before .before .before .before in
+    let f = s .args .file .now in
+    let i = s .args .i in
+    let v = c .before .before .before .before .dates-at .ensures in
+    let a = ap (λ (x : Dates). x .from) v in
+    let b = ap (λ (x : Dates). x .to) v in
+    let z : zeros f i ≡ true = sym (c .before .before .before .before .before .before .zeroed .ensures) ∙ not-false _ (c .before .before .before .before .before .if3 .left) in
+    let t : (fromOf f i ≤ toOf f i) = rw (← a, ← b) (c .before .before .if4 .left) in
+    let n : ¬ (toOf f i ≡ 4294967295) = rw (← b) (c .if5 .left) in
+    sym (fault-none f i (kind-known (c .before .before .before .before .before .before .before .before .before) .kind) (range-known (c .before .before .before .before .before .before .before)) z (record { order = t; minute = n }))
 
 pub fault-spec : {M : Type 1} → statement M
 fault-spec =
@@ -92,6 +106,7 @@ fault-spec =
     returns-2
     zeroed-requires
     returns-3
-    read-period-requires
+    dates-at-requires
     returns-4
-    returns-5)
+    returns-5
+    returns-6)

@@ -1,6 +1,7 @@
--- `period` says where the period begins and ends.
+-- `period` says which of the two numbers is wrong.
 use mathlib.Core.Path.{sym}
-use Rattle.file_sentences.proofs.Wording.{period-line}
+use borrow.Author.Tests.{lt-ltb, le-ltb}
+use Rattle.file_sentences.proofs.Wording.{period-line, last-line}
 use borrow.Author.Needs.{needs}
 use Rattle.file_sentences.proofs.period.Statement.{statement}
 use Rattle.file_sentences.proofs.period.Tie as tie
@@ -33,7 +34,14 @@ four-at-requires-2 : tie.Need-four-at-requires-2
 four-at-requires-2 c κs = search needs
 
 returns : tie.Need-returns
-returns c = rw (sym (c .before .before .two-at .ensures .0), sym (c .before .four-at .ensures), sym (c .four-at2 .ensures)) (period-line _ _ _)
+returns c =
+    let s = c .before in
+    rw (sym (s .before .before .two-at .ensures .0), sym (s .before .four-at .ensures), sym (s .four-at2 .ensures), lt-ltb _ _ (c .if1 .taken)) (period-line _ _ _)
+
+returns-2 : tie.Need-returns-2
+returns-2 c =
+    let s = c .before in
+    rw (sym (s .before .before .two-at .ensures .0), sym (s .before .four-at .ensures), sym (s .four-at2 .ensures), le-ltb _ _ (c .if1 .left)) (last-line _ _)
 
 pub period-spec : {M : Type 1} → statement M
 period-spec =
@@ -48,4 +56,5 @@ period-spec =
     four-at-requires
     add-four-at
     four-at-requires-2
-    returns)
+    returns
+    returns-2)

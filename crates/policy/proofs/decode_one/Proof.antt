@@ -20,7 +20,7 @@ word-at-requires c κs =
     (omega arith, small (s .args .file .now) (s .args .h) (s .args .i) (s .pre .0) (sym (c .before .fault .ensures) ∙ c .if1 .left) .entity)
 
 read-period-requires : tie.Need-read-period-requires
-read-period-requires c κs = search needs
+read-period-requires c κs = let s = c .before .before .before .before in (s .pre .0, s .pre .1, sym (c .before .before .fault .ensures) ∙ c .before .if1 .left)
 
 period-word-requires : tie.Need-period-word-requires
 period-word-requires c κs = search needs
