@@ -303,11 +303,17 @@ def ratios(name, asked, calls):
     return {c: got[c, 'rtt'] / got[c, 'grouped'] for c in calls} if got else {}
 
 
-def quick():
+def limits():
+    """By file, then by call."""
     allowed = {}
     with open(f'{HERE}/limits') as f:
         for w in (line.split() for line in f if line[0] != '#'):
             allowed.setdefault(w[0], {})[w[1]] = float(w[2])
+    return allowed
+
+
+def quick():
+    allowed = limits()
     bad, compared, held = [], 0, 0
     for name in (*files.HONEST, *files.HOSTILE):
         print(f'bench: {name}', file=sys.stderr, flush=True)
@@ -330,12 +336,15 @@ def quick():
 
 
 def write_limits():
-    """A limit for each call that is short enough for the gate to count it."""
-    lines = ['# Instructions of the library over those of the grouped yardstick, at most; written by `bench/run limits`.']
+    """A limit for each call that is short enough for the gate to count it: what was measured, or the one before where that is lower."""
+    allowed = limits()
+    lines = ['# Instructions of the library over those of the grouped yardstick, at most; written by `bench/run limits`, which raises none.']
     for name in (*files.HONEST, *files.HOSTILE):
         asked, _, steps = question(name)
+        before = allowed.get(name, {})
         calls = [c for c in calls_on(steps) if all(timed(name, asked, c, w, 0.05, 60)[1] < 4e3 for w in ('rtt', 'grouped'))]
-        lines += [f'{name} {c} {x * MARGIN:.2f}' for c, x in ratios(name, asked, calls).items()]
+        now = {c: x * MARGIN for c, x in ratios(name, asked, calls).items()}
+        lines += [f'{name} {c} {min(x[c] for x in (before, now) if c in x):.2f}' for c in CALLS if c in before or c in now]
     with open(f'{HERE}/limits', 'w') as f:
         f.write('\n'.join(lines) + '\n')
 

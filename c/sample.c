@@ -35,7 +35,7 @@ static void minutes(const uint8_t *file, size_t length, uint64_t spans)
     if (refused("intervals", count))
         return;
     for (size_t i = 0; i < count; i++)
-        printf(" %" PRIu32 "..%" PRIu32, rtt_entry32(bounds, 2 * i), rtt_entry32(bounds, 2 * i + 1));
+        printf(" from %" PRIu32 ", before %" PRIu32, rtt_entry32(bounds, 2 * i), rtt_entry32(bounds, 2 * i + 1));
     printf("\n");
 }
 

@@ -40,8 +40,8 @@
 
    A period of the file covers minute m when from <= m and m <= to. The ends of a file are the distinct from values and
    to values plus one of its periods, ascending; end 0 is the lowest. Span i runs from end i up to, not including, end
-   i + 1. So n ends make n - 1 spans, and no ends make none. rtt_ends writes the ends, rtt_intervals turns spans into
-   minutes.
+   i + 1. So n ends make n - 1 spans, and no ends make none. The last end can be 4,294,967,295, which is no minute.
+   rtt_ends writes the ends, rtt_intervals turns spans into minutes.
 
    Replies
 

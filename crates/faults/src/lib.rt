@@ -1,7 +1,8 @@
 // Of one credential of a file, refusals 4 to 7.
 ghost use mathlib.Core.Path.{_≡_};
 ghost use Prim.Native.Nat.{_<_};
-ghost use lib.Dec.{ltb};
+ghost use mathlib.Core.Bool.{_||_, not};
+ghost use lib.Dec.{eqb, ltb};
 ghost use lib.ListN.{length};
 ghost use Rattle.file.specs.Format.{byte, E, R, N};
 ghost use Rattle.file.specs.Reading.{inRange, zeros, credentialRows};
@@ -67,6 +68,28 @@ fn below(file: &[u8], p: usize, limit: u32) -> bool
     widths::wide8(file[p]) < limit
 }
 
+// A byte that is used is below the limit; one that is not used is not read.
+fn below_if_used(file: &[u8], p: usize, limit: u32, used: bool) -> bool
+    requires { ⌜ p < length (now file) ⌝ }
+    ensures { λ r. ⌜ r ≡ (not used || ltb (byte (now (file .entry)) p) limit) ⌝ }
+{
+    if used {
+        return below(file, p, limit);
+    }
+    true
+}
+
+// A byte that is not used is zero; one that is used is not read.
+fn zero_if_unused(file: &[u8], p: usize, used: bool) -> bool
+    requires { ⌜ p < length (now file) ⌝ }
+    ensures { λ r. ⌜ r ≡ (used || eqb (byte (now (file .entry)) p) 0) ⌝ }
+{
+    if used {
+        return true;
+    }
+    file[p] == 0
+}
+
 // The entities and names that the kind uses are below e and r: A, r and b always, s, c and t where it uses them.
 fn in_range(file: &[u8], i: usize, e: u32, r: u32) -> bool
     requires { ⌜ Stated (now file) i ⌝ ∗ ⌜ (e ≡ E (now file)) × (r ≡ R (now file)) ⌝ }
@@ -76,10 +99,10 @@ fn in_range(file: &[u8], i: usize, e: u32, r: u32) -> bool
     let u = used_by(file[at]);
     let entities = below(file, at + 1, e)
         & below(file, at + 3, e)
-        & (!u.c | below(file, at + 5, e));
+        & below_if_used(file, at + 5, e, u.c);
     let names = below(file, at + 2, r)
-        & (!u.s | below(file, at + 4, r))
-        & (!u.t | below(file, at + 6, r));
+        & below_if_used(file, at + 4, r, u.s)
+        & below_if_used(file, at + 6, r, u.t);
     entities & names
 }
 
@@ -90,8 +113,8 @@ fn zeroed(file: &[u8], i: usize) -> bool
 {
     let at = 6 + 8 * i;
     let u = used_by(file[at]);
-    (u.s | (file[at + 4] == 0))
-        & (u.c | (file[at + 5] == 0))
-        & (u.t | (file[at + 6] == 0))
+    zero_if_unused(file, at + 4, u.s)
+        & zero_if_unused(file, at + 5, u.c)
+        & zero_if_unused(file, at + 6, u.t)
         & (file[at + 7] == 0)
 }

@@ -18,7 +18,7 @@ use Rattle.meaning.proofs.Levels.{entity-power}
 use Rattle.file.specs.Format.{statedBy, N, field, fromOf, toOf, periodOf, credentialIn, bodyOf, bodyIn, meaningOf, credentials}
 use Rattle.file.specs.Reading.{uses}
 use Rattle.file.specs.Values.{Read, valueOf, found, foundOf, foundIn}
-use Rattle.file.specs.Conditions.{Head, Dated, Good, Accepted}
+use Rattle.file.specs.Conditions.{Head, Dated, Good, GoodBelow, Accepted}
 use Rattle.file.specs.declared.Body.{Body}
 use Rattle.file.specs.Refusals.{Outcome, numberOf}
 use Rattle.file.specs.declared.Found.the-variants as F
@@ -86,6 +86,39 @@ module _ (f : List ℕ) (h : Head f) (i : ℕ) (g : Good f i) where
       let e = good-body in
       record { value = valueOf f i (e .body); found = q ∙ rw (e .read) refl; means = rw (e .read) refl; states = e .states }
 
+module _ (f : List ℕ) (h : Head f) (good : GoodBelow f (N f)) where
+  -- the period at a position below N is the one of its bytes
+  period-at : (i : ℕ) → i < N f → credentialIn f i .period ≡ periodOf f i
+  period-at i l = good-period f h i (good i l)
+
+  -- however many there are, the ends are the from values, and the to values plus one
+  pub counted-ends : (x : ℕ) → Mem x (ends (credentials f)) ↔ ((i : ℕ) × (i < N f) × ((x ≡ fromOf f i) ⊎ (x ≡ toOf f i + 1)))
+  unfolding credentials
+  counted-ends x = (out, into)
+    where
+      Bound : Period → Type 0
+      Bound v = (x ≡ v .from) ⊎ (x ≡ v .until)
+
+      lasting : {i : ℕ} → Dated f i → fromOf f i < toOf f i + 1
+      lasting d = let o = d .order in omega arith
+
+      out : Mem x (ends (credentials f)) → (i : ℕ) × (i < N f) × Bound (periodOf f i)
+      out m =
+          let (c, k, _, b) = ends-exact (credentials f) x .0 m in
+          let (i, j, e) = map-out (credentialIn f) (below (N f)) k in
+          let l = below-out (N f) j in
+          (i, l, subst Bound (ap (λ (y : Credential). y .period) e ∙ period-at i l) b)
+
+      into : (i : ℕ) × (i < N f) × Bound (periodOf f i) → Mem x (ends (credentials f))
+      into (i, l, b) =
+          let e = period-at i l in
+          ends-exact (credentials f) x .1 (
+            credentialIn f i,
+            map-in (credentialIn f) (below-in (N f) i l),
+            subst⁻¹ (λ (v : Period). v .from < v .until) e (lasting (good i l .period)),
+            subst⁻¹ Bound e b,
+          )
+
 module _ (f : List ℕ) (a : Accepted f) where
   pub accepted-fits : FitsAll (credentials f)
   unfolding credentials
@@ -106,9 +139,8 @@ module _ (f : List ℕ) (a : Accepted f) where
   pub accepted-end : (i : ℕ) → N f ≤ i → foundIn f i ≡ F.End
   accepted-end i l = found-end f i (ap (λ (o : Outcome ℕ). numberOf o) (head-read 0 f (a .head))) l
 
-  -- the period at a position below N is the one of its bytes
   accepted-period : (i : ℕ) → i < N f → credentialIn f i .period ≡ periodOf f i
-  accepted-period i l = good-period f (a .head) i (a .good i l)
+  accepted-period = period-at f (a .head) (a .good)
 
   -- a minute is covered exactly from `from` to `to`
   pub accepted-covers : (i : ℕ) → i < N f → (m : ℕ) → T (covers (credentialIn f i .period) m) ↔ ((fromOf f i ≤ m) × (m ≤ toOf f i))
@@ -119,28 +151,4 @@ module _ (f : List ℕ) (a : Accepted f) where
 
   -- the ends are the from values, and the to values plus one
   pub accepted-ends : (x : ℕ) → Mem x (ends (credentials f)) ↔ ((i : ℕ) × (i < N f) × ((x ≡ fromOf f i) ⊎ (x ≡ toOf f i + 1)))
-  unfolding credentials
-  accepted-ends x = (out, into)
-    where
-      Bound : Period → Type 0
-      Bound v = (x ≡ v .from) ⊎ (x ≡ v .until)
-
-      lasting : {i : ℕ} → Dated f i → fromOf f i < toOf f i + 1
-      lasting d = let o = d .order in omega arith
-
-      out : Mem x (ends (credentials f)) → (i : ℕ) × (i < N f) × Bound (periodOf f i)
-      out m =
-          let (c, k, l, b) = ends-exact (credentials f) x .0 m in
-          let (i, j, e) = map-out (credentialIn f) (below (N f)) k in
-          let h = below-out (N f) j in
-          (i, h, subst Bound (ap (λ (y : Credential). y .period) e ∙ accepted-period i h) b)
-
-      into : (i : ℕ) × (i < N f) × Bound (periodOf f i) → Mem x (ends (credentials f))
-      into (i, h, b) =
-          let e = accepted-period i h in
-          ends-exact (credentials f) x .1 (
-            credentialIn f i,
-            map-in (credentialIn f) (below-in (N f) i h),
-            subst⁻¹ (λ (v : Period). v .from < v .until) e (lasting (a .good i h .period)),
-            subst⁻¹ Bound e b,
-          )
+  accepted-ends = counted-ends f (a .head) (a .good)

@@ -14,7 +14,7 @@ use Rattle.file.specs.Refusals.{Outcome, done, refused}
 use Rattle.file.specs.Format.{E, R, N, lengthFor, fromOf, toOf, credentialIn, credentials}
 use Rattle.file.specs.Reading.{reading, read}
 use Rattle.file.specs.Values.{Read, foundIn}
-use Rattle.file.specs.Conditions.{Accepted, Refused}
+use Rattle.file.specs.Conditions.{Head, GoodBelow, Accepted, Refused}
 use Rattle.file.specs.Samples.{p, kinds, dated, rightDates, wrongDates}
 use Rattle.file.specs.declared.Found.the-variants as F
 use Rattle.file.proofs.Refusals as Refusals
@@ -36,6 +36,10 @@ module _ (f : List ℕ) where
 
   pub credential-at-position : (i : ℕ) → i < N f → credentialAt (credentials f) i ≡ credentialIn f i
   credential-at-position = Credentials.credential-at f
+
+  -- The ends that 8 counts, where 1 to 7 pass, are exactly the from values and the to values plus one, however many there are.
+  pub counted-ends : Head f → GoodBelow f (N f) → (x : ℕ) → Mem x (ends (credentials f)) ↔ ((i : ℕ) × (i < N f) × ((x ≡ fromOf f i) ⊎ (x ≡ toOf f i + 1)))
+  counted-ends = Accepting.counted-ends f
 
   module _ (a : Accepted f) where
     -- What is read at a position of an accepted file means the credential there and states its bytes; from N on there is none.

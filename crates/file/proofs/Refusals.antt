@@ -12,7 +12,7 @@ use Rattle.meaning.specs.Lists.{all, each, upFrom, below}
 use Rattle.meaning.specs.Table.{ends}
 use Rattle.meaning.proofs.Tests.{and-in, and-left, and-right, eq-in, all-out}
 use Rattle.file.specs.Refusals.{RefusalRow, Outcome, done, refused, first, _when_, _at_when_}
-use Rattle.file.specs.Format.{E, R, N, lengthFor, field, fromOf, toOf, credentials}
+use Rattle.file.specs.Format.{E, R, N, lengthFor, field, credentials}
 use Rattle.file.specs.Reading.{between, uses, inRange, zeros, undated, headRows, credentialRows, endsRow, reading, read}
 use Rattle.file.proofs.Dating.{undated-in, not-both, dated-or-not}
 use Rattle.file.specs.Conditions.{Limits, Head, Ranges, Zeros, Dated, Undated, Good, GoodBelow, Accepted, Reached, Refused, short, limits, wrongLength, kind, range, unused, period, tooManyEnds}

@@ -86,7 +86,7 @@ meaningOf (Intersection Bs Ct) = roleNumber Bs ∩ roleNumber Ct
 meaningOf (Union Bs Ct) = roleNumber Bs ⊙ roleNumber Ct
 meaningOf (Disjoint Bs Ct) = roleNumber Bs ⊗ roleNumber Ct
 
--- `to` itself is covered, so the period ends before the minute after it
+-- `to` itself is covered (document 02, One), so the period ends before the minute after it
 abbrev pub periodOf : List ℕ → ℕ → Period
 periodOf f i = record { from = fromOf f i; until = toOf f i + 1 }
 

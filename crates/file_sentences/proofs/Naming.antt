@@ -17,7 +17,7 @@ use Rattle.file.specs.Conditions.{Ranges, Zeros, Undated}
 use Rattle.file.proofs.Uses.{by-kind}
 use Rattle.sentences.specs.Words.{_then_, noEntity, noName}
 use Rattle.sentences.proofs.First.{Found, Absent, found-or}
-use Rattle.file_sentences.specs.FileSentences.{strayEntity, strayName, strayByte, rangeText, periodText}
+use Rattle.file_sentences.specs.FileSentences.{strayEntity, strayName, strayByte, rangeText}
 use Rattle.file_sentences.specs.Named.{EntityNamed, NameNamed, ByteNamed, PeriodNamed}
 
 -- 0 is in no list of positive numbers

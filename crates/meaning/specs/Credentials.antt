@@ -32,7 +32,8 @@ pub record Statement : Type 0 where
 abbrev pub _⟵_ : ℕ → Body → Statement
 Ar ⟵ e = record { head = Ar; body = e }
 
--- The minutes from `from` on, up to and not including `until`. A period may be empty.
+-- The minutes from `from` on, up to and not including `until`. A period may be empty. A file has `from` and `to`, which both count (document 02, One):
+-- reading makes `until` the minute after `to`.
 pub record Period : Type 0 where
   pub from : ℕ
   pub until : ℕ

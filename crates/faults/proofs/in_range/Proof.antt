@@ -29,35 +29,35 @@ add-below-2 c = search needs
 below-requires-2 : tie.Need-below-requires-2
 below-requires-2 c κs = search needs
 
+add-below-if-used : tie.Need-add-below-if-used
+add-below-if-used c = search needs
+
+below-if-used-requires : tie.Need-below-if-used-requires
+below-if-used-requires c κs = search needs
+
 add-below-3 : tie.Need-add-below-3
 add-below-3 c = search needs
 
 below-requires-3 : tie.Need-below-requires-3
 below-requires-3 c κs = search needs
 
-add-below-4 : tie.Need-add-below-4
-add-below-4 c = search needs
+add-below-if-used-2 : tie.Need-add-below-if-used-2
+add-below-if-used-2 c = search needs
 
-below-requires-4 : tie.Need-below-requires-4
-below-requires-4 c κs = search needs
+below-if-used-requires-2 : tie.Need-below-if-used-requires-2
+below-if-used-requires-2 c κs = search needs
 
-add-below-5 : tie.Need-add-below-5
-add-below-5 c = search needs
+add-below-if-used-3 : tie.Need-add-below-if-used-3
+add-below-if-used-3 c = search needs
 
-below-requires-5 : tie.Need-below-requires-5
-below-requires-5 c κs = search needs
-
-add-below-6 : tie.Need-add-below-6
-add-below-6 c = search needs
-
-below-requires-6 : tie.Need-below-requires-6
-below-requires-6 c κs = search needs
+below-if-used-requires-3 : tie.Need-below-if-used-requires-3
+below-if-used-requires-3 c κs = search needs
 
 returns : tie.Need-returns
 returns c =
-    let s = c .before .before .before .before .before .before .before .before .before .before .before .before in
+    let s = c .before .before .before .before .before .before .before .before .before in
     simp
-    (c .before .before .before .before .before .before .before .before .before .used-by .ensures, c .before .before .before .before .before .before .before .before .below .ensures, c .before .before .before .before .before .before .before .below2 .ensures, c .before .before .before .before .before .below3 .ensures, c .before .before .before .before .below4 .ensures, c .before .before .below5 .ensures, c .below6 .ensures)
+    (c .before .before .before .before .before .before .used-by .ensures, c .before .before .before .before .before .below .ensures, c .before .before .before .before .below2 .ensures, c .before .before .before .below-if-used .ensures, c .before .before .below3 .ensures, c .before .below-if-used2 .ensures, c .below-if-used3 .ensures)
     (sym (in-range-kind (s .args .file .now) (s .args .i) (s .args .e) (s .args .r) (s .pre .0 .kind) (s .pre .1 .0) (s .pre .1 .1)))
 
 pub in-range-spec : {M : Type 1} → statement M
@@ -72,12 +72,12 @@ in-range-spec =
     below-requires
     add-below-2
     below-requires-2
+    add-below-if-used
+    below-if-used-requires
     add-below-3
     below-requires-3
-    add-below-4
-    below-requires-4
-    add-below-5
-    below-requires-5
-    add-below-6
-    below-requires-6
+    add-below-if-used-2
+    below-if-used-requires-2
+    add-below-if-used-3
+    below-if-used-requires-3
     returns)
