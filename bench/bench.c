@@ -23,7 +23,7 @@ struct lists {
     uint8_t a[BYTES], b[BYTES], c[BYTES], d[BYTES], wide[2 * BYTES];
 };
 
-static uint8_t file[6 + 16 * 256 + 1];
+static uint8_t file[6 + 20 * 256 + 1];
 static size_t length;
 
 static struct question {
@@ -222,7 +222,7 @@ static void agree(void)
         memcpy(&role, table.a + 4 * i, 4);
         memcpy(&set, table.b + 4 * i, 4);
         agree_querying(role, set, asked.minute);
-        const uint8_t *period = file + length - 8 * (1 + i % (length / 16));
+        const uint8_t *period = file + length - 8 * (1 + i % (length / 20));
         memcpy(&minute, period, 4);
         agree_querying(role, set, minute);
         memcpy(&minute, period + 4, 4);

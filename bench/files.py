@@ -12,7 +12,7 @@ SET, INCLUSION, LINK, MEET, UNION, APART = range(6)
 
 class File:
     def __init__(self, entities=32, names=32):
-        self.entities, self.names, self.lines, self.taken = entities, names, [], 0
+        self.entities, self.names, self.lines, self.taken, self.falling = entities, names, [], 0, False
 
     def fresh(self):
         """A role that nothing else uses; names 0 and 1 are left for links."""
@@ -53,8 +53,11 @@ class File:
     def bytes(self):
         assert len(self.lines) <= 256, len(self.lines)
         head = struct.pack('<3H', self.entities, self.names, len(self.lines))
-        # In a file `to` is the last minute that is covered.
-        return (head + b''.join(bytes(x[:7]) + b'\0' for x in self.lines)
+        # A serial is position plus one, or they descend to 1. In a file `to` is the last minute that is covered.
+        serials = [i + 1 for i in range(len(self.lines))]
+        if self.falling:
+            serials.reverse()
+        return (head + b''.join(bytes(x[:7]) + b'\0' + struct.pack('<I', serial) for x, serial in zip(self.lines, serials))
                 + b''.join(struct.pack('<2I', start, stop - 1) for *_, start, stop in self.lines))
 
 
@@ -294,6 +297,13 @@ def over_late():
     return f
 
 
+def serials_down():
+    """The credentials of large-1 with descending serials: each is searched for among all before it."""
+    f = large(1)
+    f.falling = True
+    return f
+
+
 # ---- hostile to querying: everything holds at one minute ----
 
 def heads():
@@ -404,7 +414,7 @@ HONEST = {
 }
 HOSTILE = {
     'chain': chain, 'deep': deep, 'wide': wide, 'naive-worst': naive_worst, 'stag-same': stag_same, 'stag-zero': stag_zero,
-    'stag-heads': stag_heads, 'over-at-once': over_at_once, 'over-late': over_late,
+    'stag-heads': stag_heads, 'over-at-once': over_at_once, 'over-late': over_late, 'serials-down': serials_down,
     'heads': heads, 'heads-two': heads_two, 'meeting': meeting, 'bodies': bodies, 'same-inclusion': same_inclusion,
     'links': links, 'linked': linked, 'meets': meets,
 }

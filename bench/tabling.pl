@@ -29,7 +29,7 @@ gives(4, Left, Right, Set, Spans) :- holds(Left, X, A), holds(Right, Y, B), Set 
 gives(5, Left, Right, Set, Spans) :-
     holds(Left, X, A), holds(Right, Y, B), X /\ Y =:= 0, Set is X \/ Y, Spans is A /\ B.
 
-% The file: sizes, statements, periods. A period is kept half-open: it covers `to`, so it stops at to + 1.
+% The file: sizes, statements of 12 bytes, periods. A statement's serial, its last four bytes, is not read. A period is kept half-open: it covers `to`, so it stops at to + 1.
 number_at(Bytes, At, Width, N) :-
     findall(B, (between(1, Width, I), J is At + Width - I, nth(J, Bytes, B)), Bs),
     foldl([B, X, Y]>>(Y is X * 256 + B), Bs, 0, N).
@@ -42,7 +42,7 @@ load(Path, When) :-
     number_at(Bytes, 4, 2, N),
     Last is N - 1,
     findall(From-Until,
-            ( between(0, Last, I), A is 6 + 8 * N + 8 * I, B is A + 4,
+            ( between(0, Last, I), A is 6 + 12 * N + 8 * I, B is A + 4,
               number_at(Bytes, A, 4, From), number_at(Bytes, B, 4, To), Until is To + 1 ),
             Periods),
     findall(E, (member(F-U, Periods), member(E, [F, U])), Es),
@@ -50,7 +50,7 @@ load(Path, When) :-
     forall(nth0(I, Periods, Period), load_one(Bytes, I, Period, Ends, When)).
 
 load_one(Bytes, I, Period, Ends, When) :-
-    findall(B, (between(0, 6, K), J is 6 + 8 * I + K, nth(J, Bytes, B)), [Kind, A, R, Bb, S, C, T]),
+    findall(B, (between(0, 6, K), J is 6 + 12 * I + K, nth(J, Bytes, B)), [Kind, A, R, Bb, S, C, T]),
     spans(When, Period, Ends, Spans),
     Head is A * 32 + R,
     (   Kind =:= 0 -> Left is 1 << Bb ; Left is Bb * 32 + S ),

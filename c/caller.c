@@ -130,10 +130,11 @@ static void texts(void)
 {
     EXPECT(strcmp(rtt_refusal_text(0), "no refusal") == 0);
     EXPECT(strcmp(rtt_refusal_text(13), "there is no proof") == 0);
-    EXPECT(strcmp(rtt_refusal_text(17), "not the number of a refusal") == 0);
+    EXPECT(strcmp(rtt_refusal_text(17), "a credential's serial is zero or that of an earlier credential") == 0);
+    EXPECT(strcmp(rtt_refusal_text(18), "not the number of a refusal") == 0);
     EXPECT(strcmp(rtt_refusal_text(refusal(13, 0)), "not the number of a refusal") == 0);
     EXPECT(strcmp(rtt_refusal_text(UINT64_MAX), "not the number of a refusal") == 0);
-    for (uint64_t i = 0; i <= 17; i++)
+    for (uint64_t i = 0; i <= 18; i++)
         for (uint64_t k = 0; k < i; k++)
             EXPECT(strcmp(rtt_refusal_text(i), rtt_refusal_text(k)) != 0);
 }
@@ -144,6 +145,7 @@ static void names(void)
     EXPECT(RTT_CREDENTIAL_OUT_OF_RANGE == 5 && RTT_BYTE_NOT_ZERO == 6 && RTT_WRONG_PERIOD == 7 && RTT_TOO_MANY_ENDS == 8);
     EXPECT(RTT_WRONG_LISTS == 9 && RTT_TOO_MANY_MEMBERSHIPS == 10 && RTT_REQUEST_OUT_OF_RANGE == 11 && RTT_NOT_A_MINUTE == 12);
     EXPECT(RTT_NO_PROOF == 13 && RTT_WRONG_STEP_COUNT == 14 && RTT_WRONG_STEP == 15 && RTT_OTHER_MEMBERSHIP == 16);
+    EXPECT(RTT_WRONG_SERIAL == 17);
     EXPECT(rtt_number(query(P, sizeof P, rtt_role(0, 1), 6, 19, L)) == RTT_NO_PROOF);
     switch (rtt_number(refusal(15, 2))) {
     case RTT_WRONG_STEP:
@@ -158,7 +160,7 @@ static void version(void)
     char text[32];
     snprintf(text, sizeof text, "%d.%d.%d", RTT_VERSION_NUMBER / 10000, RTT_VERSION_NUMBER / 100 % 100, RTT_VERSION_NUMBER % 100);
     EXPECT(strcmp(text, RTT_VERSION) == 0);
-    EXPECT(RTT_ENTRIES == 1024 && RTT_ENDS_BYTES == 64 * 4 && RTT_BOUNDS_BYTES == 32 * 2 * 4);
+    EXPECT(RTT_FILE_BYTES == 6 + 20 * 256 && RTT_ENTRIES == 1024 && RTT_ENDS_BYTES == 64 * 4 && RTT_BOUNDS_BYTES == 32 * 2 * 4);
 }
 
 static void entries(void)
@@ -172,7 +174,7 @@ static void entries(void)
 /* 1.2 <- 0 from minute 0 to 10. The sum 0 * 32 + 34 is this role; 0.34 is none. */
 static void roles(void)
 {
-    static const uint8_t file[] = {2, 0, 3, 0, 1, 0, 0, 1, 2, 0, 0, 0, 0, 0, 0, 0, 0, 0, 10, 0, 0, 0};
+    static const uint8_t file[] = {2, 0, 3, 0, 1, 0, 0, 1, 2, 0, 0, 0, 0, 0, 1, 0, 0, 0, 0, 0, 0, 0, 10, 0, 0, 0};
     EXPECT(rtt_role(0, 0) == 0 && rtt_role(0, 1) == 1 && rtt_role(1, 2) == 34 && rtt_role(31, 31) == 1023);
     EXPECT(rtt_role(0, 32) == 4294967295u && rtt_role(0, 34) == 4294967295u && rtt_role(32, 0) == 4294967295u);
     EXPECT(rtt_role(4294967296u, 0) == 4294967295u && rtt_role(0, UINT64_MAX) == 4294967295u);
@@ -340,10 +342,10 @@ static void empty(void)
     EXPECT(rtt_may_release(file, sizeof file, 0, 1, 0) == 0);
 }
 
-/* All five calls refuse the file so, before they look at anything else, and leave the lists as they were. */
+/* All five calls refuse the file so, whether their other arguments are wrong or those that P answers, and leave the lists as they were. */
 static void refused_by_all(int line, const uint8_t *file, size_t length, uint64_t reply)
 {
-    uint64_t got[5];
+    uint64_t got[8];
     int same = 1;
     got[0] = complete(file, length, L);
     same &= untouched(&a) && untouched(&b) && untouched(&c);
@@ -353,7 +355,12 @@ static void refused_by_all(int line, const uint8_t *file, size_t length, uint64_
     got[3] = ends(file, length, RTT_ENDS_BYTES);
     same &= untouched(&a);
     got[4] = intervals(file, length, UINT64_MAX, 0);
-    for (int i = 0; i < 5; i++)
+    got[5] = intervals(file, length, 14, RTT_BOUNDS_BYTES);
+    same &= untouched(&a);
+    got[6] = query(file, length, rtt_role(0, 1), 6, 15, L);
+    same &= untouched(&a) && untouched(&b) && untouched(&c) && untouched(&d);
+    got[7] = check(file, length, rtt_role(0, 1), 6, 15, 3);
+    for (int i = 0; i < 8; i++)
         expect(line, got[i] == reply, "each call refuses the file");
     expect(line, same, "a refusal leaves the lists as they were");
     expect(line, rtt_may_release(file, length, rtt_role(0, 1), 6, 15) == 0, "a refused file releases nothing");
@@ -368,7 +375,7 @@ static void changed(int line, size_t place, uint8_t byte, uint64_t reply)
     refused_by_all(line, file, sizeof file, reply);
 }
 
-/* P's statements begin at bytes 6, 14 and 22, its periods at 30, 38 and 46. */
+/* P's statements begin at bytes 6, 18 and 30, their serials at 14, 26 and 38, its periods at 42, 50 and 58. */
 static void refused_files(void)
 {
     refused_by_all(__LINE__, NULL, 0, refusal(1, 0));
@@ -381,23 +388,78 @@ static void refused_files(void)
     changed(__LINE__, 3, 1, refusal(2, 0));
     changed(__LINE__, 5, 1, refusal(2, 0));
     changed(__LINE__, 4, 4, refusal(3, 0));
-    changed(__LINE__, 14, 6, refusal(4, 1));
+    changed(__LINE__, 18, 6, refusal(4, 1));
     changed(__LINE__, 7, 3, refusal(5, 0));
     changed(__LINE__, 9, 3, refusal(5, 0));
-    changed(__LINE__, 24, 2, refusal(5, 2));
+    changed(__LINE__, 32, 2, refusal(5, 2));
     changed(__LINE__, 11, 1, refusal(6, 0));
-    changed(__LINE__, 29, 1, refusal(6, 2));
-    changed(__LINE__, 30, 21, refusal(7, 0));
-    changed(__LINE__, 42, 14, refusal(7, 1));
+    changed(__LINE__, 37, 1, refusal(6, 2));
+    changed(__LINE__, 42, 21, refusal(7, 0));
+    changed(__LINE__, 54, 14, refusal(7, 1));
+    changed(__LINE__, 14, 0, refusal(17, 0));
+    changed(__LINE__, 26, 0, refusal(17, 1));
+    changed(__LINE__, 38, 0, refusal(17, 2));
+    changed(__LINE__, 26, 1, refusal(17, 1));
+    changed(__LINE__, 38, 1, refusal(17, 2));
+    changed(__LINE__, 38, 2, refusal(17, 2));
+    changed(__LINE__, 14, 3, refusal(17, 2));
+    changed(__LINE__, 14, 2, refusal(17, 1));
+}
+
+/* P with the serials x, y and z. */
+static const uint8_t *with_serials(uint32_t x, uint32_t y, uint32_t z)
+{
+    static uint8_t file[sizeof P];
+    memcpy(file, P, sizeof P);
+    for (int i = 0; i < 4; i++) {
+        file[14 + i] = (uint8_t)(x >> (8 * i));
+        file[26 + i] = (uint8_t)(y >> (8 * i));
+        file[38 + i] = (uint8_t)(z >> (8 * i));
+    }
+    return file;
+}
+
+/* Any serials that are not zero and not the same give P's replies, and the proof cites positions. */
+static void reads_as_p(int line, const uint8_t *file)
+{
+    expect(line, complete(file, sizeof P, L) == 3, "three memberships");
+    expect(line, query(file, sizeof P, rtt_role(0, 1), 6, 15, L) == 3 + 2 * 65536 && is_k1(4 * L), "K1's proof");
+    expect(line, check(file, sizeof P, rtt_role(0, 1), 6, 15, 3) == 2, "its check");
+    expect(line, ends(file, sizeof P, RTT_ENDS_BYTES) == 6, "six ends");
+    expect(line, intervals(file, sizeof P, 14, RTT_BOUNDS_BYTES) == 1, "one interval");
+    expect(line, rtt_may_release(file, sizeof P, rtt_role(0, 1), 6, 15) == 1, "release");
+}
+
+static void serials(void)
+{
+    uint8_t file[sizeof P];
+    reads_as_p(__LINE__, with_serials(3, 2, 1));
+    reads_as_p(__LINE__, with_serials(2, 4294967295u, 1));
+    reads_as_p(__LINE__, with_serials(65536, 1, 65537));
+    reads_as_p(__LINE__, with_serials(16777216, 256, 2147483648u));
+    refused_by_all(__LINE__, with_serials(4294967295u, 7, 4294967295u), sizeof P, refusal(17, 2));
+    refused_by_all(__LINE__, with_serials(9, 8, 8), sizeof P, refusal(17, 2));
+    refused_by_all(__LINE__, with_serials(0, 0, 0), sizeof P, refusal(17, 0));
+    refused_by_all(__LINE__, with_serials(5, 5, 0), sizeof P, refusal(17, 1));
+    /* 17 of credential 1 before 4 of credential 2; 7 of credential 1 before its 17; 4 of credential 1 before 17 of credential 2. */
+    memcpy(file, with_serials(5, 5, 6), sizeof P);
+    file[30] = 6;
+    refused_by_all(__LINE__, file, sizeof P, refusal(17, 1));
+    memcpy(file, with_serials(5, 5, 6), sizeof P);
+    file[54] = 14;
+    refused_by_all(__LINE__, file, sizeof P, refusal(7, 1));
+    memcpy(file, with_serials(5, 6, 5), sizeof P);
+    file[18] = 6;
+    refused_by_all(__LINE__, file, sizeof P, refusal(4, 1));
 }
 
 /* 0.0 <- 0 in one period. */
 static const uint8_t *in_period(uint32_t from, uint32_t to)
 {
-    static uint8_t file[22] = {1, 0, 1, 0, 1, 0};
+    static uint8_t file[26] = {1, 0, 1, 0, 1, 0, 0, 0, 0, 0, 0, 0, 0, 0, 1};
     for (int i = 0; i < 4; i++) {
-        file[14 + i] = (uint8_t)(from >> (8 * i));
-        file[18 + i] = (uint8_t)(to >> (8 * i));
+        file[18 + i] = (uint8_t)(from >> (8 * i));
+        file[22 + i] = (uint8_t)(to >> (8 * i));
     }
     return file;
 }
@@ -407,14 +469,14 @@ static void covers(int line, uint32_t from, uint32_t to)
 {
     const uint8_t *file = in_period(from, to);
     const uint32_t bounds[] = {from, to + 1};
-    expect(line, complete(file, 22, 1) == 1 && rtt_entry64(c.bytes, 0) == 1, "one membership in one span");
-    expect(line, ends(file, 22, RTT_ENDS_BYTES) == 2 && has(&a, RTT_ENDS_BYTES, 2, bounds), "from and to + 1 are the ends");
-    expect(line, intervals(file, 22, 1, RTT_BOUNDS_BYTES) == 1 && has(&a, RTT_BOUNDS_BYTES, 2, bounds), "one interval");
-    expect(line, query(file, 22, 0, 1, from, 1) == 1 + 1 * 65536, "from is covered");
-    expect(line, query(file, 22, 0, 1, to, 1) == 1 + 1 * 65536, "to is covered");
-    expect(line, from == 0 || query(file, 22, 0, 1, from - 1, 1) == refusal(13, 0), "the minute before is not");
-    expect(line, query(file, 22, 0, 1, to + 1, 1) == refusal(to == 4294967294u ? 12 : 13, 0), "nor is the one after");
-    expect(line, rtt_may_release(file, 22, 0, 1, to) == 1 && rtt_may_release(file, 22, 0, 1, to + 1) == 0, "release up to the last minute");
+    expect(line, complete(file, 26, 1) == 1 && rtt_entry64(c.bytes, 0) == 1, "one membership in one span");
+    expect(line, ends(file, 26, RTT_ENDS_BYTES) == 2 && has(&a, RTT_ENDS_BYTES, 2, bounds), "from and to + 1 are the ends");
+    expect(line, intervals(file, 26, 1, RTT_BOUNDS_BYTES) == 1 && has(&a, RTT_BOUNDS_BYTES, 2, bounds), "one interval");
+    expect(line, query(file, 26, 0, 1, from, 1) == 1 + 1 * 65536, "from is covered");
+    expect(line, query(file, 26, 0, 1, to, 1) == 1 + 1 * 65536, "to is covered");
+    expect(line, from == 0 || query(file, 26, 0, 1, from - 1, 1) == refusal(13, 0), "the minute before is not");
+    expect(line, query(file, 26, 0, 1, to + 1, 1) == refusal(to == 4294967294u ? 12 : 13, 0), "nor is the one after");
+    expect(line, rtt_may_release(file, 26, 0, 1, to) == 1 && rtt_may_release(file, 26, 0, 1, to + 1) == 0, "release up to the last minute");
 }
 
 static void periods(void)
@@ -424,27 +486,31 @@ static void periods(void)
     covers(__LINE__, 0, 0);
     covers(__LINE__, 0, 4294967294u);
     covers(__LINE__, 4294967294u, 4294967294u);
-    refused_by_all(__LINE__, in_period(9, 8), 22, refusal(7, 0));
-    refused_by_all(__LINE__, in_period(4294967294u, 0), 22, refusal(7, 0));
-    refused_by_all(__LINE__, in_period(4294967295u, 4294967294u), 22, refusal(7, 0));
-    refused_by_all(__LINE__, in_period(0, 4294967295u), 22, refusal(7, 0));
-    refused_by_all(__LINE__, in_period(4294967295u, 4294967295u), 22, refusal(7, 0));
+    refused_by_all(__LINE__, in_period(9, 8), 26, refusal(7, 0));
+    refused_by_all(__LINE__, in_period(4294967294u, 0), 26, refusal(7, 0));
+    refused_by_all(__LINE__, in_period(4294967295u, 4294967294u), 26, refusal(7, 0));
+    refused_by_all(__LINE__, in_period(0, 4294967295u), 26, refusal(7, 0));
+    refused_by_all(__LINE__, in_period(4294967295u, 4294967295u), 26, refusal(7, 0));
 }
 
 /* 0.0 <- 0 in periods of one minute each, 0, 2, 4 and so on: two ends each, so that 32 are accepted and 33 refused. */
 static void too_many_ends(void)
 {
-    uint8_t file[6 + 16 * 33];
+    uint8_t file[6 + 20 * 33];
     for (uint8_t n = 32; n <= 33; n++) {
         const uint8_t sizes[] = {1, 0, 1, 0, n, 0};
         memset(file, 0, sizeof file);
         memcpy(file, sizes, sizeof sizes);
-        for (size_t i = 0; i < n; i++)
-            file[6 + 8 * (n + i)] = file[6 + 8 * (n + i) + 4] = (uint8_t)(2 * i);
+        for (uint8_t i = 0; i < n; i++) {
+            file[6 + 12 * i + 8] = (uint8_t)(i + 1);
+            file[6 + 12 * n + 8 * i] = file[6 + 12 * n + 8 * i + 4] = (uint8_t)(2 * i);
+        }
         if (n == 32)
-            EXPECT(ends(file, 6 + 16 * 32, RTT_ENDS_BYTES) == 64);
+            EXPECT(ends(file, 6 + 20 * 32, RTT_ENDS_BYTES) == 64);
         else
             refused_by_all(__LINE__, file, sizeof file, refusal(8, 0));
+        file[6 + 12 * 31 + 8] = 1;
+        refused_by_all(__LINE__, file, 6 + 20 * (size_t)n, refusal(17, 31));
     }
 }
 
@@ -464,6 +530,7 @@ int main(void)
     releasing();
     empty();
     refused_files();
+    serials();
     periods();
     too_many_ends();
     printf("%u expectations, %u failed\n", expected, failed);

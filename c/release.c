@@ -38,7 +38,7 @@ static void ask(const char *question, const uint8_t *file, size_t length, uint32
 
 int main(void)
 {
-    uint8_t file[4103];
+    uint8_t file[RTT_FILE_BYTES + 1];
     size_t length = fread(file, 1, sizeof file, stdin);
     uint32_t thursday = 3 * 1440 + 10 * 60, friday = 4 * 1440 + 18 * 60;
     uint32_t ada = 1u << ADA, ben = 1u << BEN, cara = 1u << CARA;

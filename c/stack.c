@@ -25,7 +25,7 @@ static size_t most[CALLS];
 static uint8_t room[ROOM] __attribute__((aligned(64)));
 static ucontext_t here, there;
 
-static uint8_t file[4103];
+static uint8_t file[RTT_FILE_BYTES + 1];
 static size_t length;
 static uint32_t role, set, minute, steps;
 static uint8_t a[4 * RTT_ENTRIES], b[4 * RTT_ENTRIES], c[4 * RTT_ENTRIES], d[4 * RTT_ENTRIES], s[8 * RTT_ENTRIES];

@@ -26,7 +26,7 @@
 
    A proof step is four words, at the same place of four lists:
 
-     credential  the position of the credential that it uses, counted from 0 in the file
+     credential  the position of the credential that it uses, counted from 0 in the file; not its serial
      first       the first step that it cites, counted from 0 in the proof; 0 where none is cited
      second      the second step that it cites, likewise
      sets        the resulting set: the step shows that the credential's role A.r has this set
@@ -60,17 +60,18 @@
          refuse, and say rtt_refusal_text(rtt_number(reply));
 
    The first condition that holds, from top to bottom, is the refusal; credentials are tested in file order, each
-   through 4 to 7. Places count from 0. enum rtt_refusal has a name for each number.
+   through 4 to 7 and 17. Places count from 0. enum rtt_refusal has a name for each number.
 
      number  condition                                             place       given by
         1    the file has under 6 bytes                            0           all
         2    E or R outside 1 to 32, or N above 256                0           all
-        3    the file's length is not 6 + 16 * N                   0           all
+        3    the file's length is not 6 + 20 * N                   0           all
         4    a credential's kind is above 5                        credential  all
         5    its issuer or a used entity is not below E, or        credential  all
              its name or a used name is not below R
         6    an unused byte or byte 7 is not zero                  credential  all
         7    from is above to, or to is 4,294,967,295              credential  all
+       17    its serial is zero or that of an earlier credential   credential  all
         8    the periods have over 64 ends                         0           all
         9    a list is not whole entries, the lists are not of     0           complete, query, check
              one length, or L is outside 1 to 1,024
@@ -112,8 +113,8 @@ extern "C" {
 
 /* The version of this interface; the pkg-config file and the manual pages take it from here. The number is
    major * 10,000 + minor * 100 + patch. */
-#define RTT_VERSION "2.0.0"
-#define RTT_VERSION_NUMBER 20000
+#define RTT_VERSION "3.0.0"
+#define RTT_VERSION_NUMBER 30000
 
 /* Bytes of stack that are enough for any call, beside what the caller itself uses. Measured, no call takes more than
 
@@ -125,6 +126,9 @@ extern "C" {
 
    which is rounded up to the next thousand. */
 #define RTT_STACK 81920
+
+/* The bytes of the longest file. A longer one is refused, also where only RTT_FILE_BYTES + 1 bytes of it were read. */
+#define RTT_FILE_BYTES 5126
 
 /* The most entries of a list. */
 #define RTT_ENTRIES 1024
@@ -157,7 +161,8 @@ enum rtt_refusal {
     RTT_NO_PROOF = 13,
     RTT_WRONG_STEP_COUNT = 14,
     RTT_WRONG_STEP = 15,
-    RTT_OTHER_MEMBERSHIP = 16
+    RTT_OTHER_MEMBERSHIP = 16,
+    RTT_WRONG_SERIAL = 17
 };
 
 /* Completes the table of the file: every membership that is valid at one minute or more, with all spans in which it is.
@@ -168,7 +173,7 @@ enum rtt_refusal {
    spans   8 bytes an entry, written; bit i stands for span i
 
    Returns the count of memberships. Entry i of the lists is the i-th membership, ascending by role, then by set; every
-   entry after the last is zero. Refuses with 1 to 10.  */
+   entry after the last is zero. Refuses with 1 to 8 and 17, 9 and 10.  */
 RTT_MUST_USE
 uint64_t rtt_complete(const uint8_t *file, size_t file_length,
                       uint8_t *roles, size_t roles_length,
@@ -183,7 +188,7 @@ uint64_t rtt_complete(const uint8_t *file, size_t file_length,
 
    Returns steps + level * 65,536 (rtt_steps, rtt_level). Entry i is step i; the last step shows the queried membership;
    no membership is shown twice, and every step is one that the last rests on; every entry after the last is zero.
-   Refuses with 1 to 9, 11, 12, 10 and 13.  */
+   Refuses with 1 to 8 and 17, 9, 11, 12, 10 and 13.  */
 RTT_MUST_USE
 uint64_t rtt_query(const uint8_t *file, size_t file_length,
                    uint32_t role, uint32_t set, uint32_t minute,
@@ -200,8 +205,8 @@ uint64_t rtt_query(const uint8_t *file, size_t file_length,
    credential, first, second, sets   4 bytes an entry, read: the words of the proof's steps
    steps                             how many steps the proof has, 1 to L; further entries may hold anything
 
-   Returns the proof's level as it is, without steps: rtt_level is not for this reply. Refuses with 1 to 9, 11, 12 and 14
-   to 16.  */
+   Returns the proof's level as it is, without steps: rtt_level is not for this reply. Refuses with 1 to 8 and 17,
+   9, 11, 12 and 14 to 16.  */
 RTT_MUST_USE
 uint64_t rtt_check(const uint8_t *file, size_t file_length,
                    uint32_t role, uint32_t set, uint32_t minute,
@@ -217,7 +222,7 @@ uint64_t rtt_check(const uint8_t *file, size_t file_length,
    ends   RTT_ENDS_BYTES bytes, 4 an entry, written
 
    Returns the count of ends, at most 64. Entry i is end i, ascending; every entry after the last is zero. Refuses with
-   1 to 9.  */
+   1 to 8 and 17, and 9.  */
 RTT_MUST_USE
 uint64_t rtt_ends(const uint8_t *file, size_t file_length,
                   uint8_t *ends, size_t ends_length);
@@ -230,7 +235,7 @@ uint64_t rtt_ends(const uint8_t *file, size_t file_length,
             which covers minute m when from <= m and m < to: unlike a period of the file, it does not cover `to`
 
    Returns the count of intervals, at most 32. They ascend and never touch, since spans that touch are joined; every
-   entry after the last interval is zero. Refuses with 1 to 9 and 11.  */
+   entry after the last interval is zero. Refuses with 1 to 8 and 17, 9 and 11.  */
 RTT_MUST_USE
 uint64_t rtt_intervals(const uint8_t *file, size_t file_length,
                        uint64_t spans,
@@ -245,7 +250,7 @@ RTT_MUST_USE static inline uint32_t rtt_place(uint64_t reply) { return rtt_ok(re
 RTT_MUST_USE static inline uint32_t rtt_steps(uint64_t reply) { return rtt_ok(reply) ? (uint32_t)reply & 65535 : 0; }
 RTT_MUST_USE static inline uint32_t rtt_level(uint64_t reply) { return rtt_ok(reply) ? (uint32_t)reply >> 16 : 0; }
 
-/* A refusal's number, which is rtt_number(reply), in words: a constant string. 0 is "no refusal"; any number above 16,
+/* A refusal's number, which is rtt_number(reply), in words: a constant string. 0 is "no refusal"; any number above 17,
    such as the whole reply of a refusal, is "not the number of a refusal". */
 static inline const char *rtt_refusal_text(uint64_t number)
 {
@@ -267,6 +272,7 @@ static inline const char *rtt_refusal_text(uint64_t number)
     case RTT_WRONG_STEP_COUNT: return "the step count is 0 or more than the lists have entries";
     case RTT_WRONG_STEP: return "a step breaks the rules for a proof step";
     case RTT_OTHER_MEMBERSHIP: return "the last step is not the queried membership";
+    case RTT_WRONG_SERIAL: return "a credential's serial is zero or that of an earlier credential";
     default: return "not the number of a refusal";
     }
 }

@@ -1,4 +1,5 @@
-//! Document 01's cases, with the results that it states, as request One of document 02 changes them.
+//! Document 01's cases, with the results that it states, as requests One and Two of document 02 change them: a serial is position
+//! plus one.
 
 use crate::calls::Call;
 use crate::explore::{completed, handed_out, queried};
@@ -11,8 +12,9 @@ use crate::reference::known::{Known, Question};
 use crate::reference::reading::word;
 use crate::reference::{Refusal, RIGHT};
 
-/// The 54 bytes of set P as document 01 prints them.
-const P: &str = "030002000300 0000000100000000 0000000200000000 0500010000000000 0A00000014000000 0F0000001E000000 0000000012000000";
+/// The bytes of set P as document 01 prints them, with a serial after each statement: 66.
+const P: &str =
+    "030002000300 0000000100000000 01000000 0000000200000000 02000000 0500010000000000 03000000 0A00000014000000 0F0000001E000000 0000000012000000";
 
 fn set_p() -> Vec<u8> {
     let digits: String = P.split(' ').collect();
@@ -22,7 +24,7 @@ fn set_p() -> Vec<u8> {
 /// Set P with ⊙ in place of ⊗.
 fn set_p_union() -> Vec<u8> {
     let mut bytes = set_p();
-    bytes[6 + 16] = 4;
+    bytes[6 + 2 * 12] = 4;
     bytes
 }
 

@@ -1,4 +1,4 @@
-//! Faults of a file, made in its bytes; and periods of which some are no fault.
+//! Faults of a file, made in its bytes; and periods and serials of which some are no fault.
 
 use crate::reference::reading::word;
 
@@ -18,6 +18,7 @@ pub enum Fault {
     /// A byte of the statement.
     Byte(usize, u8),
     Period(Bounds),
+    Serial(Number),
 }
 
 #[derive(Clone, Copy, Debug)]
@@ -43,6 +44,19 @@ pub enum Bounds {
     BothLast,
 }
 
+/// What becomes of a serial. Some are no fault.
+#[derive(Clone, Copy, Debug)]
+pub enum Number {
+    Zero,
+    /// That of the credential before it.
+    Before,
+    /// That of the credential after it, which is then at fault.
+    After,
+    First,
+    /// The first one's with the highest bit changed, so that the other 31 are the same.
+    NearFirst,
+}
+
 pub fn all() -> Vec<Fault> {
     use Fault::*;
     let mut all = vec![None];
@@ -51,18 +65,19 @@ pub fn all() -> Vec<Fault> {
         all.extend([Value::Is(0), Value::Is(33), Value::Is(32), Value::Plus(256), Value::Less].map(|value| Size(size, value)));
     }
     all.extend([Value::Is(257), Value::Is(u16::MAX), Value::Plus(256), Value::More, Value::Less].map(|value| Size(2, value)));
-    all.extend([1, -1, 8, -8, 16, -16].map(Length));
+    all.extend([1, -1, 8, -8, 20, -20].map(Length));
     all.extend([6, 7, 255].map(Kind));
     all.extend((1..7).map(Limit));
     all.extend((1..8).flat_map(|byte| [Byte(byte, 1), Byte(byte, 255)]));
     all.extend([Bounds::Same, Bounds::Next, Bounds::Reversed].map(Period));
     all.extend([Bounds::FromBeyond, Bounds::ToBeyond, Bounds::BothBeyond, Bounds::ToLast, Bounds::BothLast].map(Period));
+    all.extend([Number::Zero, Number::Before, Number::After, Number::First, Number::NearFirst].map(Serial));
     all
 }
 
 /// Makes a fault in a file that had `count` credentials.
 pub fn make(fault: Fault, bytes: &mut Vec<u8>, count: usize, place: usize) {
-    let (statement, period) = (6 + 8 * place, 6 + 8 * count + 8 * place);
+    let (statement, period) = (6 + 12 * place, 6 + 12 * count + 8 * place);
     let size = |bytes: &[u8], at: usize| u16::from_le_bytes([bytes[2 * at], bytes[2 * at + 1]]);
     let has = |end: usize| place < count && end <= bytes.len();
     match fault {
@@ -79,9 +94,9 @@ pub fn make(fault: Fault, bytes: &mut Vec<u8>, count: usize, place: usize) {
             };
             bytes[2 * at..2 * at + 2].copy_from_slice(&new.to_le_bytes());
         }
-        Fault::Kind(kind) if has(statement + 8) => bytes[statement] = kind,
-        Fault::Limit(byte) if has(statement + 8) => bytes[statement + byte] = size(bytes, [0, 1, 0, 1, 0, 1][byte - 1]) as u8,
-        Fault::Byte(byte, value) if has(statement + 8) => bytes[statement + byte] = value,
+        Fault::Kind(kind) if has(statement + 12) => bytes[statement] = kind,
+        Fault::Limit(byte) if has(statement + 12) => bytes[statement + byte] = size(bytes, [0, 1, 0, 1, 0, 1][byte - 1]) as u8,
+        Fault::Byte(byte, value) if has(statement + 12) => bytes[statement + byte] = value,
         Fault::Period(bounds) if has(period + 8) => {
             let (from, to) = (word(&bytes[period..], 0), word(&bytes[period..], 1));
             let (beyond, last) = (u32::MAX, u32::MAX - 1);
@@ -96,6 +111,17 @@ pub fn make(fault: Fault, bytes: &mut Vec<u8>, count: usize, place: usize) {
                 Bounds::BothLast => (last, last),
             };
             bytes[period..period + 8].copy_from_slice(&[from.to_le_bytes(), to.to_le_bytes()].concat());
+        }
+        Fault::Serial(number) if has(6 + 12 * count) => {
+            let serial = |place: usize| word(&bytes[6 + 12 * place + 8..], 0);
+            let new = match number {
+                Number::Zero => 0,
+                Number::Before => serial(place.saturating_sub(1)),
+                Number::After => serial((place + 1).min(count - 1)),
+                Number::First => serial(0),
+                Number::NearFirst => serial(0) ^ 1 << 31,
+            };
+            bytes[statement + 8..statement + 12].copy_from_slice(&new.to_le_bytes());
         }
         _ => {}
     }

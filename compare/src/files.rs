@@ -2,6 +2,7 @@
 
 use crate::random::Random;
 use crate::reference::{reading::uses, role};
+use crate::serials;
 
 /// From and to as the file has them; both minutes are covered.
 pub type Period = (u32, u32);
@@ -14,7 +15,7 @@ pub fn between(start: u32, stop: u32) -> Period {
     (start, stop - 1)
 }
 
-/// A file as statements and periods; it may hold more than the limits allow.
+/// A file as statements, without their serials, and periods; it may hold more than the limits allow.
 #[derive(Clone)]
 pub struct Draft {
     pub entities: u32,
@@ -52,10 +53,35 @@ impl Draft {
         self.add(kind, head, [one / 32, one % 32, other / 32, other % 32], period);
     }
 
+    /// The file in which a serial is position plus one.
     pub fn bytes(&self) -> Vec<u8> {
+        self.bytes_with(&serials::ascending(self.credentials.len()))
+    }
+
+    /// The file with serials that no two credentials share, in some order. The random numbers stay as they are.
+    pub fn numbered(&self, random: &Random) -> Vec<u8> {
+        self.bytes_with(&serials::some(&mut random.clone(), self.credentials.len()))
+    }
+
+    /// The file with these serials.
+    pub fn bytes_with(&self, serials: &[u32]) -> Vec<u8> {
+        assert!(serials.len() == self.credentials.len());
+        self.laid_out(|i| serials[i].to_le_bytes().to_vec())
+    }
+
+    /// The file as it was before it had serials.
+    pub fn without_serials(&self) -> Vec<u8> {
+        self.laid_out(|_| Vec::new())
+    }
+
+    /// Sizes, statements each with its serial, periods.
+    fn laid_out(&self, serial: impl Fn(usize) -> Vec<u8>) -> Vec<u8> {
         let sizes = [self.entities as u16, self.names as u16, self.credentials.len() as u16];
         let mut bytes: Vec<u8> = sizes.iter().flat_map(|size| size.to_le_bytes()).collect();
-        bytes.extend(self.credentials.iter().flat_map(|(statement, _)| statement));
+        for (i, (statement, _)) in self.credentials.iter().enumerate() {
+            bytes.extend(statement);
+            bytes.extend(serial(i));
+        }
         bytes.extend(self.credentials.iter().flat_map(|(_, (from, to))| [from.to_le_bytes(), to.to_le_bytes()]).flatten());
         bytes
     }

@@ -13,6 +13,7 @@ mod lent;
 mod proofs;
 mod random;
 mod reference;
+mod serials;
 mod watch;
 mod wrong;
 
@@ -218,7 +219,7 @@ fn covered(subject: &dyn Calls, counts: &Counts) {
             Call::Ends => &[],
             Call::Intervals => &[11],
         };
-        for number in (0..10).chain(last.iter().copied()) {
+        for number in (0..10).chain([17]).chain(last.iter().copied()) {
             if !counts.replies.contains_key(&(call.name(), number)) {
                 println!("FAILED: no input made {} reply with {number}", call.name());
                 exit(1);

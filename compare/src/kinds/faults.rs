@@ -10,6 +10,7 @@ use crate::random::Random;
 use crate::reference::checking::Step;
 use crate::reference::ends::BYTES;
 use crate::reference::known::{Known, Question};
+use crate::serials;
 
 /// Every two faults of the file, with and without faults of the call's other arguments.
 pub fn damaged(c: &mut Comparison, random: &mut Random, count: usize) -> Compared<()> {
@@ -22,7 +23,7 @@ pub fn damaged(c: &mut Comparison, random: &mut Random, count: usize) -> Compare
         };
         for one in &faults {
             for other in &faults {
-                let mut file = draft.bytes();
+                let mut file = draft.numbered(random);
                 let credentials = draft.credentials.len();
                 let places = (random.below(credentials), random.below(credentials));
                 damage::make(*one, &mut file, credentials, places.0);
@@ -33,6 +34,52 @@ pub fn damaged(c: &mut Comparison, random: &mut Random, count: usize) -> Compare
         }
     }
     Ok(())
+}
+
+/// Serials in every order, as they are and with some that are zero or used; with each, also a fault of 4 to 7 in the credential
+/// before, in the same one or in the next. And files without serials.
+pub fn serials(c: &mut Comparison, random: &mut Random, count: usize) -> Compared<()> {
+    use damage::{Bounds, Fault};
+    let others = [Fault::Kind(6), Fault::Limit(1), Fault::Byte(7, 1), Fault::Period(Bounds::ToBeyond), Fault::Period(Bounds::Next)];
+    for _ in 0..count {
+        for draft in [dense_of(random, 1), dense_of(random, 2), dense_of(random, 3), dense_of(random, 11), with_ends(random, 65), plain(random)] {
+            let credentials = draft.credentials.len();
+            whole(c, random, &draft.without_serials())?;
+            for order in serials::ORDERS {
+                let right = order(random, credentials);
+                whole(c, random, &draft.bytes_with(&right))?;
+                for (place, wrong) in serials::changed(random, &right) {
+                    let file = draft.bytes_with(&wrong);
+                    whole(c, random, &file)?;
+                    for at in place.saturating_sub(1)..=(place + 1).min(credentials - 1) {
+                        for other in [random.choose(&others), Fault::Period(Bounds::ToBeyond)] {
+                            let mut file = file.clone();
+                            damage::make(other, &mut file, credentials, at);
+                            let known = c.known(&file);
+                            damaged_calls(c, random, &file, &known)?;
+                        }
+                    }
+                }
+            }
+        }
+    }
+    Ok(())
+}
+
+/// All calls on a file, and questions where it is accepted.
+fn whole(c: &mut Comparison, random: &mut Random, file: &[u8]) -> Compared<()> {
+    let known = c.known(file);
+    query_some(c, random, file, &known, 3, 1)?;
+    damaged_calls(c, random, file, &known)
+}
+
+/// 256 credentials with few memberships.
+fn plain(random: &mut Random) -> Draft {
+    let mut draft = Draft::new(4, 4);
+    for i in 0..256 {
+        draft.fact(random.below(4) as u32, i % 4, between(0, 1 + random.below(4) as u32));
+    }
+    draft
 }
 
 /// A dense file with exactly so many credentials.
@@ -92,7 +139,7 @@ fn few_steps(random: &mut Random, length: usize) -> Vec<Step> {
 /// for the memberships and with a wrong step count.
 pub fn questions(c: &mut Comparison, random: &mut Random, count: usize) -> Compared<()> {
     for i in 0..count {
-        let file = if i % 2 == 0 { spread(random).bytes() } else { dense(random, &SMALL).bytes() };
+        let file = if i % 2 == 0 { spread(random).numbered(random) } else { dense(random, &SMALL).numbered(random) };
         let known = c.known(&file);
         complete_all(c, random, &file, &known)?;
         query_some(c, random, &file, &known, 20, 2)?;
@@ -114,15 +161,19 @@ pub fn questions(c: &mut Comparison, random: &mut Random, count: usize) -> Compa
 
 pub fn random_bytes(c: &mut Comparison, random: &mut Random, count: usize) -> Compared<()> {
     for i in 0..count {
-        let mut file = vec![0; random.choose(&[0, 5, 6, 22, 38, 54, 70, 300, 4102, 4118, 60_000][..if i % 100 == 0 { 11 } else { 8 }])];
+        let mut file = vec![0; random.choose(&[0, 5, 6, 26, 46, 66, 86, 300, 5126, 5146, 60_000][..if i % 100 == 0 { 11 } else { 8 }])];
         random.fill(&mut file);
         // Most of the time a right head for the length, often low bytes.
         if file.len() > 6 && !random.once_in(4) {
             let limit = random.choose(&[2, 3, 6, 256]);
             file[6..].iter_mut().for_each(|byte| *byte = if *byte < 128 { 0 } else { (*byte as usize % limit) as u8 });
             file[..4].copy_from_slice(&[random.within(1, 32) as u8, 0, random.within(1, 32) as u8, 0]);
-            let count = ((file.len() - 6) / 16).min(256) as u16;
-            file[4..6].copy_from_slice(&count.to_le_bytes());
+            let count = ((file.len() - 6) / 20).min(256);
+            file[4..6].copy_from_slice(&(count as u16).to_le_bytes());
+            // Half of the time serials that no two credentials share.
+            for (i, serial) in serials::some(random, count).into_iter().enumerate().take(if random.once_in(2) { count } else { 0 }) {
+                file[6 + 12 * i + 8..6 + 12 * i + 12].copy_from_slice(&serial.to_le_bytes());
+            }
         }
         let known = c.known(&file);
         damaged_calls(c, random, &file, &known)?;
@@ -132,7 +183,7 @@ pub fn random_bytes(c: &mut Comparison, random: &mut Random, count: usize) -> Co
 
 pub fn lists(c: &mut Comparison, random: &mut Random, count: usize) -> Compared<()> {
     for _ in 0..count {
-        let file = dense(random, &SMALL).bytes();
+        let file = dense(random, &SMALL).numbered(random);
         let known = c.known(&file);
         let fits = known.table().map_or(1, |table| table.len());
         let mut entries = vec![0, 1, 2, fits.saturating_sub(1), fits, fits + 1, 1023, 1024, 1025, 2000];

@@ -13,7 +13,7 @@ use crate::reference::MOST;
 
 pub fn small(c: &mut Comparison, random: &mut Random, count: usize) -> Compared<()> {
     for _ in 0..count {
-        let file = dense(random, &SMALL).bytes();
+        let file = dense(random, &SMALL).numbered(random);
         let known = c.known(&file);
         complete_all(c, random, &file, &known)?;
         query_some(c, random, &file, &known, 12, 4)?;
@@ -23,7 +23,7 @@ pub fn small(c: &mut Comparison, random: &mut Random, count: usize) -> Compared<
 
 pub fn joint_small(c: &mut Comparison, random: &mut Random, count: usize) -> Compared<()> {
     for _ in 0..count {
-        let file = dense(random, &SMALL).bytes();
+        let file = dense(random, &SMALL).numbered(random);
         let known = c.known(&file);
         let fits = known.table().map_or(0, |table| table.len());
         let length = random.choose(&[fits, fits + 1, MOST]).clamp(1, MOST);
@@ -34,7 +34,7 @@ pub fn joint_small(c: &mut Comparison, random: &mut Random, count: usize) -> Com
 
 pub fn periods(c: &mut Comparison, random: &mut Random, count: usize) -> Compared<()> {
     for _ in 0..count {
-        let file = timed(random).bytes();
+        let file = timed(random).numbered(random);
         let known = c.known(&file);
         complete_all(c, random, &file, &known)?;
         joint(c, random, &file, &known, 16)?;
@@ -72,7 +72,7 @@ pub fn medium(c: &mut Comparison, random: &mut Random, count: usize) -> Compared
             let (entities, credentials) = (random.within(4, 12) as u32, random.within(20, 80));
             layered(random, entities, 8, credentials, &ends)
         };
-        let file = draft.bytes();
+        let file = draft.numbered(random);
         let known = c.known(&file);
         complete_all(c, random, &file, &known)?;
         query_some(c, random, &file, &known, 40, 2)?;
@@ -83,7 +83,7 @@ pub fn medium(c: &mut Comparison, random: &mut Random, count: usize) -> Compared
 pub fn many_ends(c: &mut Comparison, random: &mut Random, count: usize) -> Compared<()> {
     for i in 0..count {
         let ends = [63, 64, 65][i % 3];
-        let file = with_ends(random, ends).bytes();
+        let file = with_ends(random, ends).numbered(random);
         let known = c.known(&file);
         assert!(known.read.as_ref().map_or(65, |file| file.ends.len()) == ends);
         complete_all(c, random, &file, &known)?;
@@ -107,7 +107,7 @@ pub fn full(c: &mut Comparison, random: &mut Random, count: usize) -> Compared<(
                 layered(random, entities, 32, 256, &ends)
             }
         };
-        let file = draft.bytes();
+        let file = draft.numbered(random);
         let known = c.known(&file);
         complete_all(c, random, &file, &known)?;
         query_some(c, random, &file, &known, 60, 2)?;
@@ -125,7 +125,7 @@ pub fn deep(c: &mut Comparison, random: &mut Random, count: usize) -> Compared<(
                 ring(random, sets, 29)
             }
         };
-        let file = draft.bytes();
+        let file = draft.numbered(random);
         let known = c.known(&file);
         complete_all(c, random, &file, &known)?;
         let Members::Levels(levels) = &*known.members(0) else { continue };
@@ -152,7 +152,7 @@ pub fn limit(c: &mut Comparison, random: &mut Random, count: usize) -> Compared<
     for i in 0..count {
         let total = [1024, 1025, 1023][i % 3];
         let widest = if i < 6 { 10 } else { random.within(6, 9) };
-        let file = with_memberships(random, total, widest).bytes();
+        let file = with_memberships(random, total, widest).numbered(random);
         let known = c.known(&file);
         assert!(known.table().map_or(1025, |table| table.len()) == total);
         for length in [1022, 1023, 1024, 1025] {

@@ -12,7 +12,7 @@ use crate::reference::{Rules, MOST, RIGHT};
 /// A small file that has memberships, with a minute at which it has some and one of these.
 fn provable(c: &mut Comparison, random: &mut Random) -> (Vec<u8>, Known, Question) {
     loop {
-        let file = dense(random, &SMALL).bytes();
+        let file = dense(random, &SMALL).numbered(random);
         let known = Known::new(RIGHT, &file);
         let minute = random.choose(&minutes(known.read.as_ref().unwrap()));
         let Members::Levels(levels) = &*known.members(minute) else { continue };

@@ -5,7 +5,7 @@ use super::checking::{check, Step};
 use super::completing::{table, written, Table};
 use super::ends::{intervals, listed, whole_list};
 use super::meaning::{members, Members};
-use super::reading::{read, word, File};
+use super::reading::{word, File};
 use super::{refuse, Membership, Refusal, Rules, MOST};
 use std::cell::{OnceCell, RefCell};
 use std::collections::BTreeMap;
@@ -61,7 +61,7 @@ pub fn steps(lists: &[&[u8]; 4], count: usize) -> Vec<Step> {
 
 impl Known {
     pub fn new(rules: Rules, bytes: &[u8]) -> Known {
-        Known { rules, read: read(&rules, bytes), minutes: Default::default(), table: OnceCell::new() }
+        Known { rules, read: (rules.reads)(&rules, bytes), minutes: Default::default(), table: OnceCell::new() }
     }
 
     pub fn table(&self) -> Option<&Table> {

@@ -1,4 +1,4 @@
-//! A second implementation of the calls of document 01, written from documents 01, 02 (request One) and 003 and not from the library.
+//! A second implementation of the calls of document 01, written from documents 01, 02 (requests One and Two) and 003 and not from the library.
 //! It is as slow and as plain as it can be: every minute's memberships are Definition 3's sequence from nothing.
 
 pub mod checking;
@@ -9,9 +9,15 @@ pub mod meaning;
 pub mod querying;
 pub mod reading;
 
+use reading::{read, File};
+
 /// The parts of the rules that a wrong variant may replace.
 #[derive(Clone, Copy)]
 pub struct Rules {
+    /// The file that the bytes are, or the refusal.
+    pub reads: fn(rules: &Rules, bytes: &[u8]) -> Result<File, Refusal>,
+    /// Whether 17 refuses a serial after those of the earlier credentials, which are in file order.
+    pub taken: fn(earlier: &[u32], serial: u32) -> bool,
     /// Whether 7 refuses the period from..to.
     pub refuses: fn(from: u32, to: u32) -> bool,
     /// Whether the period from..to covers the minute.
@@ -26,7 +32,11 @@ pub struct Rules {
     pub rounds: usize,
 }
 
-pub const RIGHT: Rules = Rules { refuses, covers, end, links, combines, rounds: usize::MAX };
+pub const RIGHT: Rules = Rules { reads: read, taken, refuses, covers, end, links, combines, rounds: usize::MAX };
+
+fn taken(earlier: &[u32], serial: u32) -> bool {
+    serial == 0 || earlier.contains(&serial)
+}
 
 fn refuses(from: u32, to: u32) -> bool {
     from > to || to == 4_294_967_295

@@ -1,4 +1,5 @@
-//! Document 01, "The credentials file", with document 02's request One: bytes to credentials, or the first of the refusals 1 to 8.
+//! Document 01, "The credentials file", with document 02's requests One and Two: bytes to credentials, or the first of the refusals
+//! 1 to 8 and 17.
 
 use super::{refuse, role, Refusal, Rules};
 use std::collections::BTreeSet;
@@ -17,6 +18,7 @@ pub enum Body {
 
 #[derive(Clone, Copy, PartialEq, Eq, Debug)]
 pub struct Credential {
+    pub serial: u32,
     pub head: u32,
     pub body: Body,
     /// As the file has them: both minutes are covered.
@@ -42,16 +44,22 @@ pub fn read(rules: &Rules, bytes: &[u8]) -> Result<File, Refusal> {
     if entities < 1 || entities > 32 || names < 1 || names > 32 || count > 256 {
         return refuse(2);
     }
-    if bytes.len() != 6 + 16 * count {
+    if bytes.len() != 6 + 20 * count {
         return refuse(3);
     }
     let mut file = File { entities: entities as u32, names: names as u32, credentials: Vec::new(), ends: Vec::new() };
+    let mut serials = Vec::new();
     for place in 0..count {
-        let statement = &bytes[6 + 8 * place..][..8];
-        let period = &bytes[6 + 8 * count + 8 * place..][..8];
+        let statement = &bytes[6 + 12 * place..][..12];
+        let period = &bytes[6 + 12 * count + 8 * place..][..8];
+        let refused = |number| Err(Refusal { number, place: place as u32 });
         match credential(rules, statement, period, file.entities, file.names) {
-            Ok(credential) => file.credentials.push(credential),
-            Err(number) => return Err(Refusal { number, place: place as u32 }),
+            Err(number) => return refused(number),
+            Ok(credential) if (rules.taken)(&serials, credential.serial) => return refused(17),
+            Ok(credential) => {
+                serials.push(credential.serial);
+                file.credentials.push(credential);
+            }
         }
     }
     let ends: BTreeSet<u32> = file.credentials.iter().flat_map(|c| [c.from, (rules.end)(c.to)]).collect();
@@ -72,7 +80,7 @@ pub fn uses(kind: u8) -> [bool; 4] {
     }
 }
 
-/// One credential, or the number of its first refusal.
+/// One credential, or the number of its first refusal of 4 to 7.
 fn credential(rules: &Rules, statement: &[u8], period: &[u8], entities: u32, names: u32) -> Result<Credential, u32> {
     let kind = statement[0];
     if kind > 5 {
@@ -97,7 +105,7 @@ fn credential(rules: &Rules, statement: &[u8], period: &[u8], entities: u32, nam
         2 => Body::Linked(role(b, s), t),
         _ => Body::Pair(kind, role(b, s), role(c, t)),
     };
-    Ok(Credential { head: role(issuer, name), body, from, to })
+    Ok(Credential { serial: word(statement, 2), head: role(issuer, name), body, from, to })
 }
 
 /// The 32-bit number at a position counted in numbers, lowest byte first.

@@ -95,16 +95,16 @@ fn pairs(shown: &[Shown]) -> Vec<u32> {
 }
 
 /// The first steps, if the right call comes as far as to read them.
-fn reads(second: &Second, file: Slice, q: Question, lists: [Slice; 4], count: u64) -> Option<Vec<Step>> {
+pub fn reads(second: &Second, file: Slice, q: Question, lists: [Slice; 4], count: u64) -> Option<Vec<Step>> {
     let reply = number(second.check(file, q, lists, count));
-    (reply == 0 || reply >= 15).then(|| {
+    matches!(reply, 0 | 15 | 16).then(|| {
         let bytes = lists.map(|list| list.first(4 * count as usize));
         steps(&[&bytes[0], &bytes[1], &bytes[2], &bytes[3]], count as usize)
     })
 }
 
 /// The right call on other steps.
-fn instead(second: &Second, file: Slice, q: Question, steps: &[Step]) -> u64 {
+pub fn instead(second: &Second, file: Slice, q: Question, steps: &[Step]) -> u64 {
     let mut words = crate::input::words(steps);
     let lists = words.each_mut().map(|list| Slice { start: list.as_mut_ptr(), length: list.len() });
     second.check(file, q, lists, steps.len() as u64)
@@ -136,7 +136,7 @@ fn last_credential_valid(second: &Second, file: Slice, q: Question, lists: [Slic
     let mut bytes = file.all();
     let credentials = accepted(file).unwrap().credentials.len();
     for place in (0..credentials).filter(|&place| place as u32 != steps[steps.len() - 1].credential) {
-        bytes[6 + 8 * credentials + 8 * place..][..8].copy_from_slice(&[0, 0, 0, 0, 254, 255, 255, 255]);
+        bytes[6 + 12 * credentials + 8 * place..][..8].copy_from_slice(&[0, 0, 0, 0, 254, 255, 255, 255]);
     }
     let wide = Slice { start: bytes.as_mut_ptr(), length: bytes.len() };
     instead(second, wide, q, &steps)

@@ -23,8 +23,8 @@ pub const ALL: &[Wrong] = &[
     complete("not-ascending", not_ascending, "ascending by set, then by role"),
     complete("sixty-four-ends-refused", |s, f, l| if ends(f) == 64 { refusal(8) } else { s.complete(f, l) }, "64 ends refused"),
     complete("nine-before-eight", nine_before_eight, "9 before 8"),
-    complete("all-kinds-first", all_kinds_first, "4 of all credentials before 5 to 7 of any"),
-    complete("all-periods-first", all_periods_first, "7 of all credentials before 4 to 6 of any"),
+    complete("all-kinds-first", all_kinds_first, "4 of all credentials before 5 to 7 and 17 of any"),
+    complete("all-periods-first", all_periods_first, "7 of all credentials before 4 to 6 and 17 of any"),
     complete("spans-length-ignored", spans_length_ignored, "the third list's length not compared"),
     complete("length-rounded-down", length_rounded_down, "lengths that are not whole entries rounded down"),
     complete("exchanged", |s, f, l| s.complete(f, l).rotate_left(32), "place and number exchanged"),
@@ -196,9 +196,9 @@ fn nine_before_eight(second: &Second, file: Slice, lists: [Slice; 3]) -> u64 {
 fn all_kinds_first(second: &Second, file: Slice, lists: [Slice; 3]) -> u64 {
     let reply = second.complete(file, lists);
     let bytes = file.all();
-    if (4..9).contains(&number(reply)) {
+    if matches!(number(reply), 4..=8 | 17) {
         let count = u16::from_le_bytes([bytes[4], bytes[5]]) as u64;
-        if let Some(place) = (0..count).find(|&i| bytes[6 + 8 * i as usize] > 5) {
+        if let Some(place) = (0..count).find(|&i| bytes[6 + 12 * i as usize] > 5) {
             return refusal(4) + place;
         }
     }
@@ -208,9 +208,9 @@ fn all_kinds_first(second: &Second, file: Slice, lists: [Slice; 3]) -> u64 {
 fn all_periods_first(second: &Second, file: Slice, lists: [Slice; 3]) -> u64 {
     let reply = second.complete(file, lists);
     let bytes = file.all();
-    if (4..9).contains(&number(reply)) {
+    if matches!(number(reply), 4..=8 | 17) {
         let count = u16::from_le_bytes([bytes[4], bytes[5]]) as usize;
-        let period = |i: usize| (word(&bytes[6 + 8 * (count + i)..], 0), word(&bytes[6 + 8 * (count + i)..], 1));
+        let period = |i: usize| (word(&bytes[6 + 12 * count + 8 * i..], 0), word(&bytes[6 + 12 * count + 8 * i..], 1));
         if let Some(place) = (0..count).find(|&i| (RIGHT.refuses)(period(i).0, period(i).1)) {
             return refusal(7) + place as u64;
         }

@@ -1,7 +1,7 @@
 //! Wrong ways to list the ends, and the intervals of a span number.
 
-use super::{accepted, ends, intervals, number, refusal, unwritten, Wrong, RIGHT};
-use crate::calls::{zero, Calls, Second, Slice};
+use super::{accepted, cleared, ends, intervals, number, refusal, unwritten, Wrong, RIGHT};
+use crate::calls::{Calls, Second, Slice};
 use crate::reference::ends::{intervals as right, listed, BYTES};
 use crate::reference::Rules;
 
@@ -16,7 +16,7 @@ pub const ALL: &[Wrong] = &[
     ends("ends-highest-first", |s, f, l| highest_first(l, s.ends(f, l)), "highest byte first"),
     ends("ends-longer-list", |s, f, l| in_longer(l, |l| s.ends(f, l)), "lists of more than 256 bytes taken"),
     ends("ends-shorter-list", |s, f, l| in_shorter(s, f, l), "lists that just hold the ends taken"),
-    ends("ends-nine-first", |s, f, l| if l.length != BYTES { refusal(9) } else { s.ends(f, l) }, "9 before 1 to 8"),
+    ends("ends-nine-first", |s, f, l| if l.length != BYTES { refusal(9) } else { s.ends(f, l) }, "9 before 1 to 8 and 17"),
     ends("ends-cleared-on-9", |s, f, l| cleared(l, s.ends(f, l), 9), "list cleared after 9"),
     ends("ends-cleared-on-7", |s, f, l| cleared(l, s.ends(f, l), 7), "list cleared after 7"),
     ends("ends-sixty-four-refused", |s, f, l| if s.ends(f, l) == 64 { refusal(8) } else { s.ends(f, l) }, "64 ends refused"),
@@ -43,7 +43,7 @@ pub const ALL: &[Wrong] = &[
         "as many spans as ends",
     ),
     intervals("intervals-eleven-first", eleven_before_nine, "11 before 9"),
-    intervals("intervals-nine-first", |s, f, n, l| if l.length != BYTES { refusal(9) } else { s.intervals(f, n, l) }, "9 before 1 to 8"),
+    intervals("intervals-nine-first", |s, f, n, l| if l.length != BYTES { refusal(9) } else { s.intervals(f, n, l) }, "9 before 1 to 8 and 17"),
     intervals("intervals-longer-list", |s, f, n, l| in_longer(l, |l| s.intervals(f, n, l)), "lists of more than 256 bytes taken"),
     intervals("intervals-cleared-on-9", |s, f, n, l| cleared(l, s.intervals(f, n, l), 9), "list cleared after 9"),
     intervals("intervals-cleared-on-11", |s, f, n, l| cleared(l, s.intervals(f, n, l), 11), "list cleared after 11"),
@@ -129,13 +129,6 @@ fn in_shorter(second: &Second, file: Slice, list: Slice) -> u64 {
         }
         _ => reply,
     }
-}
-
-fn cleared(list: Slice, reply: u64, on: u64) -> u64 {
-    if number(reply) == on {
-        zero(&[list]);
-    }
-    reply
 }
 
 /// Other intervals where the right call writes some.

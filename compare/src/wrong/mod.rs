@@ -4,8 +4,9 @@ mod checking;
 mod completing;
 mod ends;
 mod querying;
+mod serials;
 
-use crate::calls::{Call, Calls, Second, Slice};
+use crate::calls::{zero, Call, Calls, Second, Slice};
 use crate::reference::known::Question;
 use crate::reference::reading::{read, File};
 use crate::reference::{Rules, RIGHT};
@@ -118,7 +119,7 @@ const RULES: &[Wrong] = &[
     rules("to-uncovered", Rules { covers: |from, to, minute| from <= minute && minute < to, ..RIGHT }, "minute `to` not covered"),
     rules("after-to-covered", Rules { covers: |from, to, minute| from <= minute && minute <= to + 1, ..RIGHT }, "the minute after `to` covered"),
     rules("from-not-covered", Rules { covers: |from, to, minute| from < minute && minute <= to, ..RIGHT }, "minute `from` not covered"),
-    rules("half-open", HALF_OPEN, "7 at from ≥ to, `to` not covered, `to` among the ends: document 01 without request One"),
+    rules("half-open", HALF_OPEN, "7 at from ≥ to, `to` not covered, `to` among the ends: document 01's reading before request One"),
     rules("seven-at-equal", Rules { refuses: |from, to| from >= to || to == u32::MAX, ..RIGHT }, "7 at from = to"),
     rules("seven-without-order", Rules { refuses: |_, to| to == u32::MAX, ..RIGHT }, "7 for `to` 4,294,967,295 alone"),
     rules(
@@ -148,7 +149,7 @@ const SUM_TESTED: Rules =
 
 /// Every wrong variant.
 pub fn all() -> Vec<Wrong> {
-    [RULES, completing::ALL, querying::ALL, checking::ALL, ends::ALL].concat()
+    [RULES, serials::ALL, completing::ALL, querying::ALL, checking::ALL, ends::ALL].concat()
 }
 
 fn number(reply: u64) -> u64 {
@@ -170,6 +171,14 @@ fn refusal(number: u64) -> u64 {
 
 fn accepted(file: Slice) -> Option<File> {
     read(&RIGHT, &file.all()).ok()
+}
+
+/// The list cleared after a refusal.
+fn cleared(list: Slice, reply: u64, on: u64) -> u64 {
+    if number(reply) == on {
+        zero(&[list]);
+    }
+    reply
 }
 
 /// The call, then the lists as they were before it.

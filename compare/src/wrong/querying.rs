@@ -40,7 +40,7 @@ fn exchanged(reply: u64) -> u64 {
 }
 
 /// The right call, and the proof in the lists changed where the new one fits.
-fn rewritten(second: &Second, file: Slice, q: Question, lists: [Slice; 4], change: impl Fn(&File, u32, &[Step]) -> Vec<Step>) -> u64 {
+pub fn rewritten(second: &Second, file: Slice, q: Question, lists: [Slice; 4], change: impl Fn(&File, u32, &[Step]) -> Vec<Step>) -> u64 {
     let reply = second.query(file, q, lists);
     if number(reply) != 0 {
         return reply;

@@ -3,11 +3,11 @@ use mathlib.Core.Path.{_≡_, refl, sym, ap, _∙_, subst, subst⁻¹}
 use mathlib.Core.Logic.{_↔_, dite}
 use mathlib.Core.Bool.{Bool, true, false, _&&_, not}
 use mathlib.Core.List.{List, [], _∷_, _++_}
-use Prim.Native.Nat.{ℕ, _/_, _%_, _^_, _≤_, _<_}
+use Prim.Native.Nat.{ℕ, _/_, _%_, _^_, _<_}
 use native.Mathlib.Decide.{ℕ-discrete}
 use native.Mathlib.Nat.{lt-of-not-le}
 use native.Mathlib.Omega.{arith}
-use lib.Dec.{T, eqb, leb, ltb, leb→le, ltb→lt, lt→ltb, T-not}
+use lib.Dec.{T, eqb, ltb, ltb→lt, lt→ltb, T-not}
 use borrow.Author.Tests.{ne-eqb}
 use Rattle.meaning.specs.Lists.{all, each, below}
 use Rattle.meaning.specs.Table.{bit}
@@ -17,11 +17,12 @@ use Rattle.file.specs.declared.Refusal.{Refusal}
 use Rattle.file.specs.Refusals.{RefusalRow, Outcome, done, refused, first}
 use Rattle.file.specs.Values.{refusalOf, firstRefusal}
 use Rattle.file.specs.Format.{E, R, N}
-use Rattle.file.specs.Reading.{headRows, credentialRows, credentialsRows, endsRow, reading}
+use Rattle.file.specs.Reading.{headRows, checkRows, credentialsRows, endsRow, reading}
 use Rattle.file.proofs.First.{after, numbered, noneHolds, first-append, first-clear, first-holds, holds-first, numbered-append, not-not}
 use Rattle.file.proofs.Refusals.{accepted-read, accepted-exact}
 use Rattle.survey.proofs.Surveying.{reading-numbered}
 use Rattle.asking.specs.Asking.{Request, StepLists, oneLength, within, requestRows, asking, Askable}
+use Rattle.asking.specs.Conditions.{ofRequest}
 
 -- ---- rows and their numbers
 
@@ -73,19 +74,16 @@ rows-passed : {B : Type 0} (rows more : List RefusalRow) (b : B) → first rows 
 rows-passed {B} rows more b e =
     first-append {A = B} {B = B} rows more b b ∙ ap (λ (o : Outcome B). after {A = B} {B = B} o (first more b)) e
 
--- ---- 1 to 12, and not 10
+-- ---- their numbers
 
-abbrev low : ℕ → Bool
-low n = leb 1 n && leb n 12 && not (eqb n 10)
+abbrev requestRow : RefusalRow → Bool
+requestRow r = ofRequest (r .number)
 
-abbrev lowRow : RefusalRow → Bool
-lowRow r = low (r .number)
-
-reading-low : (f : List ℕ) → T (all lowRow (reading f))
+reading-numbers : (f : List ℕ) → T (all requestRow (reading f))
 unfolding reading
-reading-low f =
-    all-append lowRow (headRows f) (credentialsRows f ++ endsRow f ∷ []) tt
-    (all-append lowRow (credentialsRows f) (endsRow f ∷ []) (all-each lowRow (credentialRows f) (below (N f)) (λ i. tt)) tt)
+reading-numbers f =
+    all-append requestRow (headRows f) (credentialsRows f ++ endsRow f ∷ []) tt
+    (all-append requestRow (credentialsRows f) (endsRow f ∷ []) (all-each requestRow (checkRows f) (below (N f)) (λ i. tt)) tt)
 
 -- ---- a request
 
@@ -94,9 +92,9 @@ module _ (f : List ℕ) (q : Request) (t : StepLists) where
   unfolding asking
   asking-numbered = numbered-append (reading f) (requestRows f q t) (reading-numbered f) tt
 
-  asking-low : T (all lowRow (asking f q t))
+  asking-numbers : T (all requestRow (asking f q t))
   unfolding asking
-  asking-low = all-append lowRow (reading f) (requestRows f q t) (reading-low f) tt
+  asking-numbers = all-append requestRow (reading f) (requestRows f q t) (reading-numbers f) tt
 
   pub asking-done : Askable f q t → {B : Type 0} (b : B) → first (asking f q t) b ≡ done b
   unfolding asking
@@ -138,16 +136,13 @@ module _ (f : List ℕ) (q : Request) (t : StepLists) where
           minute = λ i. T-not (eqb (q .minute) 4294967295) (and-left m true (and-right (not (not (w && s))) (m && true) v)) (eq-in _ _ i);
         }
 
-    -- The refusals of a request are 1 to 12 other than 10, so 10 and 13 are not among them.
-    pub asked-low : (r .number ≡ 0 → ⊥) → (1 ≤ r .number) × (r .number ≤ 12) × (r .number ≡ 10 → ⊥)
-    asked-low h =
-        let n = r .number in
-        let u = first-number {A = ℕ} low (asking f q t ++ []) 0 {n = n} {p = r .place} (all-append lowRow (asking f q t) [] asking-low tt) (asked-refused h {B = ℕ} [] 0) in
-        let v = and-left (leb 1 n && leb n 12) (not (eqb n 10)) u in (
-          leb→le 1 n (and-left (leb 1 n) (leb n 12) v),
-          leb→le n 12 (and-right (leb 1 n) (leb n 12) v),
-          λ i. T-not (eqb n 10) (and-right (leb 1 n && leb n 12) (not (eqb n 10)) u) (eq-in _ _ i),
-        )
+    -- A refusal of the request is one of a file's, 9, 11 or 12; so it is neither 10 nor 13, which clear lists.
+    pub asked-number : (r .number ≡ 0 → ⊥) → T (ofRequest (r .number))
+    asked-number h =
+        first-number {A = ℕ} ofRequest (asking f q t ++ []) 0 {n = r .number} {p = r .place} (all-append requestRow (asking f q t) [] asking-numbers tt) (asked-refused h {B = ℕ} [] 0)
+
+    pub asked-not : (r .number ≡ 0 → ⊥) → (m : ℕ) → T (not (ofRequest m)) → r .number ≡ m → ⊥
+    asked-not h m t i = T-not (ofRequest m) t (subst (λ (k : ℕ). T (ofRequest k)) i (asked-number h))
 
 -- ---- within the file's numbers
 

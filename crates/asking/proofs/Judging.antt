@@ -34,7 +34,7 @@ module _ (f : List ℕ) (q : Request) (t : StepLists) (p es : List ℕ) (s : Sum
   number-of : firstRefusal (reading f) .number ≡ s .number
   number-of = ap (λ (x : Refusal). x .number) reading-refusal
 
-  -- 1 to 8
+  -- 1 to 8 and 17
   pub file-refused : {r : Admission} → (s .number ≡ 0 → ⊥) → r ≡ record { number = s .number; place = s .place; credentials = 0 } → Admits f q t p r
   unfolding asking
   file-refused h =

@@ -1,4 +1,4 @@
--- Refusals 9, 11 and 12 of a request are given exactly under document 01's conditions.
+-- Refusals 9, 11 and 12 of a request are given exactly under the documents' conditions.
 use mathlib.Core.Path.{_≡_, refl, sym, ap, _∙_, subst, subst⁻¹}
 use mathlib.Core.Logic.{_⊎_, inl, inr, _↔_}
 use mathlib.Core.Bool.{Bool, _&&_, not}
@@ -13,7 +13,7 @@ use Rattle.file.specs.Refusals.{RefusalRow, Outcome, done, refused, first, _whe
 use Rattle.file.specs.Reading.{between, reading}
 use Rattle.file.specs.Conditions.{Accepted}
 use Rattle.file.proofs.First.{after, first-append}
-use Rattle.file.proofs.Refusals.{pass, give, accepted-read, refused-read, refused-low, Verdict, verdict, by-test}
+use Rattle.file.proofs.Refusals.{pass, give, accepted-read, refused-read, not-of-file, Verdict, verdict, by-test}
 use Rattle.asking.specs.Asking.{Request, StepLists, size, oneLength, within, requestRows, asking, Askable}
 use Rattle.asking.specs.Conditions.{OneLength, Numbers, RefusedRequest, file, lengths, numbers, minute}
 use Rattle.asking.proofs.Asked.{first-number, asking-done, askable-passes, within-bits}
@@ -142,19 +142,19 @@ module _ (f : List ℕ) (q : Request) (t : StepLists) where
 
 module _ (f : List ℕ) (q : Request) (t : StepLists) where
   nine-out : {n p : ℕ} → RefusedRequest f q t n p → n ≡ 9 → Accepted f × ¬ OneLength t
-  nine-out (file r) e = absurd (omega (arith, refused-low f r))
+  nine-out (file r) e = absurd (not-of-file f r 9 tt e)
   nine-out (lengths c h) e = (c, h)
   nine-out (numbers c o h) e = absurd (omega arith)
   nine-out (minute c o n m) e = absurd (omega arith)
 
   eleven-out : {n p : ℕ} → RefusedRequest f q t n p → n ≡ 11 → Accepted f × OneLength t × ¬ Numbers f q
-  eleven-out (file r) e = absurd (omega (arith, refused-low f r))
+  eleven-out (file r) e = absurd (not-of-file f r 11 tt e)
   eleven-out (lengths c h) e = absurd (omega arith)
   eleven-out (numbers c o h) e = (c, o, h)
   eleven-out (minute c o n m) e = absurd (omega arith)
 
   twelve-out : {n p : ℕ} → RefusedRequest f q t n p → n ≡ 12 → Accepted f × OneLength t × Numbers f q × (q .minute ≡ 4294967295)
-  twelve-out (file r) e = absurd (omega (arith, refused-low f r))
+  twelve-out (file r) e = absurd (not-of-file f r 12 tt e)
   twelve-out (lengths c h) e = absurd (omega arith)
   twelve-out (numbers c o h) e = absurd (omega arith)
   twelve-out (minute c o n m) e = (c, o, n, m)

@@ -1,4 +1,4 @@
--- What querying and checking take (document 01): a role, a set and a minute, with four lists of proof steps; refusals 1 to 9, 11 and 12.
+-- What querying and checking take (document 01): a role, a set and a minute, with four lists of proof steps; refusals 1 to 9, 11, 12 and 17.
 use mathlib.Core.Path.{_≡_}
 use mathlib.Core.Bool.{Bool, true, _&&_, not}
 use mathlib.Core.List.{List, [], _∷_, _++_, map}
@@ -57,7 +57,7 @@ requestRows f q t =
     ∷ 12 when (eqb (q .minute) 4294967295)
     ∷ []
 
--- 1 to 9, 11 and 12
+-- 1 to 9, 11, 12 and 17
 unfoldable pub asking : List ℕ → Request → StepLists → List RefusalRow
 asking f q t = reading f ++ requestRows f q t
 

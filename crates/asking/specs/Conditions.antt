@@ -1,10 +1,13 @@
--- Document 01's conditions for refusals 9, 11 and 12 of a request, in propositions: when each is given.
+-- The documents' conditions for refusals 9, 11 and 12 of a request, in propositions: when each is given.
 use mathlib.Core.Path.{_≡_}
+use mathlib.Core.Bool.{Bool, _||_}
 use mathlib.Core.List.{List}
 use Prim.Native.Nat.{ℕ, _/_, _%_, _<_, _≤_}
+use lib.Dec.{eqb}
 use lib.ListN.{length}
 use Rattle.meaning.specs.Table.{bit}
 use Rattle.file.specs.Format.{E, R}
+use Rattle.file.specs.Reading.{ofFile}
 use Rattle.file.specs.Conditions.{Accepted, Refused}
 use Rattle.asking.specs.Asking.{Request, StepLists, size}
 
@@ -28,3 +31,7 @@ pub data RefusedRequest (f : List ℕ) (q : Request) (t : StepLists) : ℕ → �
   lengths : Accepted f → ¬ OneLength t → RefusedRequest f q t 9 0
   numbers : Accepted f → OneLength t → ¬ Numbers f q → RefusedRequest f q t 11 0
   minute : Accepted f → OneLength t → Numbers f q → q .minute ≡ 4294967295 → RefusedRequest f q t 12 0
+
+-- the numbers of these refusals: a file's, 9, 11 and 12
+abbrev pub ofRequest : ℕ → Bool
+ofRequest n = ofFile n || eqb n 9 || eqb n 11 || eqb n 12

@@ -1,4 +1,4 @@
-// A request of querying and checking: role, set and minute, with four lists of proof steps; refusals 1 to 9, 11 and 12.
+// A request of querying and checking: role, set and minute, with four lists of proof steps; refusals 1 to 9, 11, 12 and 17.
 ghost use mathlib.Core.Path.{_≡_};
 ghost use mathlib.Core.Bool.{_&&_};
 ghost use Prim.Native.Nat.{_/_, _%_, _^_, _≤_};
@@ -7,14 +7,14 @@ ghost use Rattle.file.specs.Reading.{between};
 ghost use Rattle.asking.specs.Asking.{request, stepLists};
 ghost use Rattle.asking.specs.Admitting.{Admits};
 
-// Number and place of the first refusal of 1 to 9, 11 and 12; where there is none, 0 and 0, and how many credentials the policy then has.
+// Number and place of the first refusal of 1 to 9, 11, 12 and 17; where there is none, 0 and 0, and how many credentials the policy then has.
 pub struct Admission {
     pub number: u32,
     pub place: u32,
     pub credentials: usize,
 }
 
-// Refusals 1 to 9, 11 and 12; where there is none, the policy then has the file's credentials.
+// Refusals 1 to 9, 11, 12 and 17; where there is none, the policy then has the file's credentials.
 pub fn judge(
     policy: &mut [u64; 512],
     file: &[u8],

@@ -1,7 +1,7 @@
 -- Checking against proofs: what a request that can be asked is answered, by the steps.
 use mathlib.Core.Path.{_≡_, refl, sym, ap, _∙_, subst, subst⁻¹}
 use mathlib.Core.Logic.{_⊎_, inl, inr, _↔_, dite}
-use mathlib.Core.Bool.{Bool, true, false, _&&_, not}
+use mathlib.Core.Bool.{Bool, true, false, _&&_, _||_}
 use mathlib.Core.List.{List, [], _∷_, _++_, map}
 use Prim.Native.Nat.{ℕ, zero, suc, _+_, _-_, _<_, _≤_}
 use native.Mathlib.Nat.{not-suc-le-zero}
@@ -9,20 +9,21 @@ use native.Mathlib.Decide.{ℕ-discrete}
 use native.Mathlib.Omega.{arith}
 use borrow.Author.Count.{below-more}
 use borrow.Author.Tests.{le-leb, eq-eqb, eqb-true}
-use lib.Dec.{T, eqb, leb, ltb, leb→le, T-not}
+use lib.Dec.{T, eqb, leb, ltb, leb→le}
 use lib.ListN.{length, getD, take, drop, length-append}
 use lib.Seq.{split-at, drop-length, getD-at}
 use Rattle.meaning.specs.Lists.{all, below}
 use Rattle.meaning.specs.Credentials.{Credential, credentialAt}
 use Rattle.meaning.specs.Proofs.{Step, Shown, nothing, keeps, showing, shownBy, allKeep, Proof}
-use Rattle.meaning.proofs.Tests.{and-in, and-left, and-right, is-true, is-false, eq-in}
+use Rattle.meaning.proofs.Tests.{and-in, and-left, and-right, or-left, is-true, is-false}
 use Rattle.file.specs.Refusals.{RefusalRow, done, refused, first}
 use Rattle.file.specs.declared.Refusal.{Refusal}
 use Rattle.file.specs.Values.{firstRefusal}
 use Rattle.file.specs.Format.{credentials}
 use Rattle.file.specs.Reading.{between}
 use Rattle.asking.specs.Asking.{Request, StepLists, stepIn, stepsIn, size, asking, Askable}
-use Rattle.asking.proofs.Asked.{all-append, first-number, asked-refused, asked-passed, asked-low}
+use Rattle.asking.specs.Conditions.{ofRequest}
+use Rattle.asking.proofs.Asked.{all-append, first-number, asked-refused, asked-passed, asked-number}
 use Rattle.checking.specs.Checking.{stepRow, lastShown, lastRow, partBefore, proofRows, checking}
 use Rattle.checking.specs.Walks.{concluding}
 use Rattle.steps.proofs.Counting.{length-counted, counted-snoc}
@@ -224,7 +225,7 @@ module _ (f : List ℕ) (q : Request) (t : StepLists) (n : ℕ) where
   -- ---- the numbers of the refusals
 
   abbrev number : ℕ → Bool
-  number k = leb 1 k && leb k 16 && not (eqb k 10) && not (eqb k 13)
+  number k = ofRequest k || between 14 16 k
 
   rows-number : (l : List ℕ) → T (all (λ (r : RefusalRow). number (r .number)) (map (stepRow (credentials f) (q .minute) (partBefore n t)) l))
   rows-number [] = tt
@@ -233,32 +234,14 @@ module _ (f : List ℕ) (q : Request) (t : StepLists) (n : ℕ) where
   proof-numbers : T (all (λ (r : RefusalRow). number (r .number)) (proofRows (credentials f) q t n))
   proof-numbers = all-append (λ (r : RefusalRow). number (r .number)) (map (stepRow (credentials f) (q .minute) (partBefore n t)) (below n)) (lastRow (credentials f) q (partBefore n t) n ∷ []) (rows-number (below n)) tt
 
-  abbrev Numbered : ℕ → Type 0
-  Numbered k = (1 ≤ k) × (k ≤ 16) × (k ≡ 10 → ⊥) × (k ≡ 13 → ⊥)
-
-  number-out : (k : ℕ) → T (number k) → Numbered k
-  number-out k u =
-      let a = leb 1 k in
-      let b = leb k 16 in
-      let c = not (eqb k 10) in
-      let d = not (eqb k 13) in
-      let v = and-left (a && b && c) d u in
-      let w = and-left (a && b) c v in (
-        leb→le 1 k (and-left a b w),
-        leb→le k 16 (and-right a b w),
-        λ e. T-not (eqb k 10) (and-right (a && b) c v) (eq-in k 10 e),
-        λ e. T-not (eqb k 13) (and-right (a && b && c) d u) (eq-in k 13 e),
-      )
-
-  pub refusal-numbers : (k p : ℕ) → checking f q t n ≡ refused k p → Numbered k
+  pub refusal-numbers : (k p : ℕ) → checking f q t n ≡ refused k p → T (number k)
   unfolding checking
   refusal-numbers k p e =
       dite (ℕ-discrete (r .number) 0)
-      (λ z. number-out k (first-number number (proofRows (credentials f) q t n) (level f q t n) proof-numbers (sym (asked-passed f q t r refl z (proofRows (credentials f) q t n) (level f q t n)) ∙ e)))
-      (λ h. let l = asked-low f q t r refl h in
-      let c = asked-refused f q t r refl h (proofRows (credentials f) q t n) (level f q t n) in
+      (λ z. first-number number (proofRows (credentials f) q t n) (level f q t n) proof-numbers (sym (asked-passed f q t r refl z (proofRows (credentials f) q t n) (level f q t n)) ∙ e))
+      (λ h. let c = asked-refused f q t r refl h (proofRows (credentials f) q t n) (level f q t n) in
       let i : r .number ≡ k = cc in
-      subst Numbered i (l .0, omega arith, l .2, λ x. omega arith))
+      or-left (ofRequest k) (between 14 16 k) (subst (λ (m : ℕ). T (ofRequest m)) i (asked-number f q t r refl h)))
     where
       r : Refusal
       r = firstRefusal (asking f q t)

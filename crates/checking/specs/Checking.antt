@@ -1,4 +1,4 @@
--- Checking a proof (document 01): the level, or a refusal of 1 to 9, 11, 12 and 14 to 16.
+-- Checking a proof (document 01): the level, or a refusal of 1 to 9, 11, 12 and 14 to 17.
 use mathlib.Core.Bool.{Bool, _&&_, not}
 use mathlib.Core.List.{List, [], _∷_, _++_, map}
 use Prim.Native.Nat.{ℕ, _-_}

@@ -1,4 +1,4 @@
--- The refusals of completing are given exactly under document 01's conditions.
+-- The refusals of completing are given exactly under the documents' conditions.
 use mathlib.Core.Path.{_≡_, refl, sym, ap, _∙_, subst}
 use mathlib.Core.Logic.{_⊎_, inl, inr, _↔_}
 use mathlib.Core.Bool.{_&&_}
@@ -14,7 +14,7 @@ use Rattle.file.specs.Format.{credentials}
 use Rattle.file.specs.Reading.{between, reading}
 use Rattle.file.specs.Conditions.{Accepted}
 use Rattle.file.proofs.First.{after, first-append}
-use Rattle.file.proofs.Refusals.{pass, give, accepted-read, refused-read, refused-low, Verdict, verdict, by-test, less}
+use Rattle.file.proofs.Refusals.{pass, give, accepted-read, refused-read, not-of-file, Verdict, verdict, by-test, less}
 use Rattle.completing.specs.Completing.{Lent, threeOfOneLength, lentRow, tableFullRow, replyTo}
 use Rattle.completing.specs.Conditions.{ThreeOfOneLength, RefusedTable, file, lengths, full}
 
@@ -112,12 +112,12 @@ module _ (f : List ℕ) (t : Lent) where
   -- ---- by number
 
   nine-out : {n p : ℕ} → RefusedTable f t n p → n ≡ 9 → Accepted f × ¬ ThreeOfOneLength t
-  nine-out (file r) e = absurd (omega (arith, refused-low f r))
+  nine-out (file r) e = absurd (not-of-file f r 9 tt e)
   nine-out (lengths c h) e = (c, h)
   nine-out (full c o h) e = absurd (omega arith)
 
   ten-out : {n p : ℕ} → RefusedTable f t n p → n ≡ 10 → Accepted f × ThreeOfOneLength t × (L t < count)
-  ten-out (file r) e = absurd (omega (arith, refused-low f r))
+  ten-out (file r) e = absurd (not-of-file f r 10 tt e)
   ten-out (lengths c h) e = absurd (omega arith)
   ten-out (full c o h) e = (c, o, h)
 

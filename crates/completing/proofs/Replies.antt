@@ -14,10 +14,9 @@ use Rattle.meaning.proofs.Tests.{and-left, and-right}
 use Rattle.file.specs.Refusals.{Outcome, done, refused, first, numberOf, left}
 use Rattle.file.specs.Format.{credentials}
 use Rattle.file.specs.Reading.{between, read}
-use Rattle.file.specs.Conditions.{Refused, short, limits, wrongLength, kind, range, unused, period, tooManyEnds}
-use Rattle.file.proofs.Refusals.{Verdict, verdict, accepted-read, refused-read}
+use Rattle.file.proofs.Refusals.{Verdict, verdict, accepted-read, refused-read, not-of-file}
 use Rattle.policy.specs.Policy.{credentialsOf}
-use Rattle.survey.specs.Ends.{padded, endsRead}
+use Rattle.survey.specs.Ends.{padded}
 use Rattle.survey.specs.Surveying.{Surveyed}
 use Rattle.survey.specs.declared.Summary.{Summary}
 use Rattle.survey.proofs.Outcomes.{survey-refused, survey-passed}
@@ -26,27 +25,20 @@ use Rattle.tabling.specs.Tabling.{Worked, Loadable}
 use Rattle.completing.specs.Completing.{Lent, lentRow, tableFullRow, replyTo, TableEnding, tableEnding, completing}
 use Rattle.completing.specs.Working.{lastReply, endingBy, lastEnding}
 
--- the refusals of a file are 1 to 8
-low : {f : List ℕ} {n p : ℕ} → Refused f n p → n ≤ 8
-low (short h) = omega arith
-low (limits h l) = omega arith
-low (wrongLength h l e) = omega arith
-low (kind i r h) = omega arith
-low (range i r k h) = omega arith
-low (unused i r k s h) = omega arith
-low (period i r k s z h) = omega arith
-low (tooManyEnds h g l) = omega arith
+-- not 10 and not 13, which clear lists
+abbrev Keeps : ℕ → Type 0
+Keeps n = (n ≡ 10 → ⊥) × (n ≡ 13 → ⊥)
 
-read-low : {A : Type 0} (f : List ℕ) (a : A) → numberOf (read f a) ≤ 8
-read-low {A} f a = go (verdict f)
+-- none of the refusals of a file does
+read-keeps : {A : Type 0} (f : List ℕ) (a : A) → Keeps (numberOf (read f a))
+read-keeps {A} f a = go (verdict f)
   where
-    go : Verdict f → numberOf (read f a) ≤ 8
-    go (inl c) = subst⁻¹ (λ (o : Outcome A). numberOf o ≤ 8) (accepted-read a f c) (omega arith)
-    go (inr (n, p, r)) = subst⁻¹ (λ (o : Outcome A). numberOf o ≤ 8) (refused-read a f r) (low r)
+    go : Verdict f → Keeps (numberOf (read f a))
+    go (inl c) = subst⁻¹ (λ (o : Outcome A). Keeps (numberOf o)) (accepted-read a f c) ((λ e. omega arith), λ e. omega arith)
+    go (inr (n, p, r)) = subst⁻¹ (λ (o : Outcome A). Keeps (numberOf o)) (refused-read a f r) (not-of-file f r 10 tt, not-of-file f r 13 tt)
 
--- a refusal other than 10 and 13 leaves a list as it was
-left-kept : (n p : ℕ) (before written : List ℕ) → n ≤ 9 → left {A = ℕ} (refused n p) before written ≡ before
-left-kept n p before written h = simp (ne-eqb n 10 (λ e. omega arith), ne-eqb n 13 (λ e. omega arith))
+left-kept : (n p : ℕ) (before written : List ℕ) → Keeps n → left {A = ℕ} (refused n p) before written ≡ before
+left-kept n p before written h = simp (ne-eqb n 10 (h .0), ne-eqb n 13 (h .1))
 
 module _ (f : List ℕ) (t : Lent) where
   abbrev size : ℕ
@@ -59,7 +51,7 @@ module _ (f : List ℕ) (t : Lent) where
   unfolding completing
   by-reply o e = sym (ap (endingBy (credentials f) t) e)
 
-  kept : (n p : ℕ) → n ≤ 9 → replyTo f t ≡ refused n p → tableEnding (refused n p) (t .roles) (t .sets) (t .spans) ≡ completing f t
+  kept : (n p : ℕ) → Keeps n → replyTo f t ≡ refused n p → tableEnding (refused n p) (t .roles) (t .sets) (t .spans) ≡ completing f t
   kept n p h e =
       (λ i. tableEnding (refused n p) (sym (left-kept n p (t .roles) (column (λ x. x .role) size rows) h) i) (sym (left-kept n p (t .sets) (column (λ x. x .set) size rows) h) i)
       (sym (left-kept n p (t .spans) (column (λ x. x .spans) size rows) h) i))
@@ -72,10 +64,8 @@ module _ (f : List ℕ) (t : Lent) where
     pub refused-ending : (s .number ≡ 0 → ⊥) → tableEnding (refused (s .number) (s .place)) (t .roles) (t .sets) (t .spans) ≡ completing f t
     unfolding replyTo
     refused-ending h =
-        kept (s .number) (s .place) (omega (arith, found .number, lowest)) (survey-refused f p es s found h (lentRow t ∷ tableFullRow f t ∷ []) (length rows))
-      where
-        lowest : numberOf (endsRead f) ≤ 8
-        lowest = read-low f _
+        kept (s .number) (s .place) (subst⁻¹ Keeps (found .number) (read-keeps f (ends (credentials f))))
+        (survey-refused f p es s found h (lentRow t ∷ tableFullRow f t ∷ []) (length rows))
 
     module _ (none : s .number ≡ 0) where
       passed : replyTo f t ≡ first (lentRow t ∷ tableFullRow f t ∷ []) (length rows)
@@ -83,7 +73,7 @@ module _ (f : List ℕ) (t : Lent) where
       passed = survey-passed f p es s found none (lentRow t ∷ tableFullRow f t ∷ []) (length rows)
 
       pub nine-ending : fitting ≡ false → tableEnding (refused 9 0) (t .roles) (t .sets) (t .spans) ≡ completing f t
-      nine-ending e = kept 9 0 (omega arith) (passed ∙ rw e refl)
+      nine-ending e = kept 9 0 ((λ z. omega arith), λ z. omega arith) (passed ∙ rw e refl)
 
       abbrev cs : List Credential
       cs = credentialsOf p (s .credentials)

@@ -2,16 +2,17 @@
 ghost use mathlib.Core.Path.{_≡_};
 ghost use Prim.Native.Nat.{_+_, _≤_};
 ghost use lib.ListN.{length};
+ghost use Rattle.file_sentences.specs.FileSentences.{longest};
 ghost use Rattle.io.specs.Counts.{Counts};
 use libc::STDERR_FILENO;
 use libc::STDIN_FILENO;
 use libc::STDOUT_FILENO;
 
 // One byte more than the longest valid file, so that a longer input is refused as one.
-pub fn room() -> [u8; 4103]
-    ensures { λ r. ⌜ 4103 ≡ length r ⌝ }
+pub fn room() -> [u8; 5127]
+    ensures { λ r. ⌜ longest + 1 ≡ length r ⌝ }
 {
-    [0; 4103]
+    [0; 5127]
 }
 
 // What was read of standard input.

@@ -1,4 +1,4 @@
-// Reads a credentials file on standard input and prints each credential on a line: position, head, body, from..to; or `refused`, number,
+// Reads a credentials file on standard input and prints each credential on a line: position, #serial, head, body, from..to; or `refused`, number,
 // place, with what that means on standard error, after the credentials before the one at fault.
 use file::Found;
 use walker::Entry;
@@ -33,17 +33,17 @@ fn list_before(file: &[u8], place: u32) {
     }
 }
 
-// Prints what stands at a position, and says whether there may be more.
+fn print_refused(file: &[u8], number: u32, place: u32) {
+    console::print_refusal(number, place);
+    list_before(file, place);
+    console::explain(file, number, place);
+}
+
+// Prints what stands at a position of a file that was not refused, and says whether there may be more.
 fn print_entry(file: &[u8], position: u32) -> bool {
-    match walker::entry_at(file, position as usize) {
-        Entry::Credential(c) => print_credential(position, c),
-        Entry::End => false,
-        Entry::Refused { number, place } => {
-            console::print_refusal(number, place);
-            list_before(file, place);
-            console::explain(file, number, place);
-            false
-        }
+    match reader::read_credential(file, position as usize) {
+        Found::Credential(c) => print_credential(position, c),
+        Found::End => false,
     }
 }
 
@@ -57,10 +57,19 @@ fn print_credentials(file: &[u8]) {
     }
 }
 
+// The walker judges the file, once; after that its credentials are read.
+fn print_file(file: &[u8]) {
+    match walker::entry_at(file, 0) {
+        Entry::Credential(_) => print_credentials(file),
+        Entry::End => {}
+        Entry::Refused { number, place } => print_refused(file, number, place),
+    }
+}
+
 fn main() {
     if 1 < os::arg_count() {
         console::usage(
-            b"usage: rtt-credentials < FILE\nFILE is a credentials file. Prints each credential: position, head, body, from..to.\n",
+            b"usage: rtt-credentials < FILE\nFILE is a credentials file. Prints each credential: position, #serial, head, body, from..to.\n",
         );
         return;
     }
@@ -70,5 +79,5 @@ fn main() {
         return;
     }
     let n = input.count;
-    print_credentials(&buffer[..n]);
+    print_file(&buffer[..n]);
 }

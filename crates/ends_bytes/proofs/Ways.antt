@@ -12,11 +12,11 @@ use Rattle.meaning.specs.Table.{ends}
 use Rattle.file.specs.Refusals.{RefusalRow, Outcome, done, refused, first, _when_, left}
 use Rattle.file.specs.Format.{credentials}
 use Rattle.file.specs.Conditions.{Accepted}
-use Rattle.file.proofs.Refusals.{Verdict, verdict}
+use Rattle.file.proofs.Refusals.{Verdict, verdict, refused-some}
 use Rattle.survey.specs.Ends.{padded}
 use Rattle.codec.specs.Bytes.{bytesOf}
 use Rattle.replies.specs.Interface.{word}
-use Rattle.replies.proofs.Files.{numbers, refused-left, refused-first, accepted-first}
+use Rattle.replies.proofs.Files.{refused-left, refused-first, accepted-first}
 use Rattle.ends_bytes.specs.Interface.{endsReply, endsBytes}
 
 module _ (f b : List ℕ) where
@@ -51,7 +51,7 @@ module _ (f b : List ℕ) where
       go (inl c) = by-length c (eqb (length b) 256) refl
       go (inr (n, p, r)) =
           let x : endsReply f b ≡ refused n p = refused-first f (nine (eqb (length b) 256)) (length all) r in
-          let l = numbers r in
+          let l = refused-some f r in
           refuses (omega (arith, ap (word (λ (n : ℕ). n)) x), ap (λ (o : Outcome ℕ). left o b (bytesOf 4 (padded 64 all))) x ∙ refused-left r b (bytesOf 4 (padded 64 all)))
 
   module _ (c : Accepted f) (l : length b ≡ 256) where

@@ -11,7 +11,7 @@ use Rattle.file.specs.Reading.{reading}
 use Rattle.survey.specs.Ends.{padded}
 use Rattle.codec.specs.Bytes.{bytesOf}
 
--- 1 to 8, then 9 for any other length; on success the count of the ends
+-- 1 to 8 and 17, then 9 for any other length; on success the count of the ends
 unfoldable pub endsReply : List ℕ → List ℕ → Outcome ℕ
 endsReply f b = first (reading f ++ (9 when (not (eqb (length b) 256)) ∷ [])) (length (ends (credentials f)))
 

@@ -13,7 +13,7 @@ pub fn fault(file: &[u8], h: file::Head, i: usize) -> u32
     requires { ⌜ (Headed (now file) h) × (i < N (now file)) ⌝ }
     ensures { λ r. ⌜ r ≡ firstNumber (credentialRows (now (file .entry)) i) ⌝ }
 {
-    if 5 < file[6 + 8 * i] {
+    if 5 < file[6 + 12 * i] {
         return 4;
     }
     let e = h.entities;
@@ -95,7 +95,7 @@ fn in_range(file: &[u8], i: usize, e: u32, r: u32) -> bool
     requires { ⌜ Stated (now file) i ⌝ ∗ ⌜ (e ≡ E (now file)) × (r ≡ R (now file)) ⌝ }
     ensures { λ ok. ⌜ ok ≡ inRange (now (file .entry)) i ⌝ }
 {
-    let at = 6 + 8 * i;
+    let at = 6 + 12 * i;
     let u = used_by(file[at]);
     let entities = below(file, at + 1, e)
         & below(file, at + 3, e)
@@ -111,7 +111,7 @@ fn zeroed(file: &[u8], i: usize) -> bool
     requires { ⌜ Stated (now file) i ⌝ }
     ensures { λ ok. ⌜ ok ≡ zeros (now (file .entry)) i ⌝ }
 {
-    let at = 6 + 8 * i;
+    let at = 6 + 12 * i;
     let u = used_by(file[at]);
     zero_if_unused(file, at + 4, u.s)
         & zero_if_unused(file, at + 5, u.c)

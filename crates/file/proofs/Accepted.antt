@@ -1,7 +1,7 @@
--- What is known of a file that passes 1 to 8: its credentials' roles and sets are within the format's numbers, each position holds its credential,
--- which covers the minutes from its `from` to its `to`, and the ends are the from values and the to values plus one.
+-- What is known of a file that passes 1 to 8 and 17: its credentials' roles and sets are within the format's numbers, each position holds its credential,
+-- which covers the minutes from its `from` to its `to`, no two credentials have one serial, and the ends are the from values and the to values plus one.
 use mathlib.Core.Path.{_≡_, refl, sym, ap, _∙_, subst, subst⁻¹}
-use mathlib.Core.Logic.{_⊎_, _↔_}
+use mathlib.Core.Logic.{_⊎_, inl, inr, _↔_}
 use mathlib.Core.List.{List, [], _∷_, List·Memᴰ as Mem, List·Memᴰ·head as head, List·Memᴰ·tail as tail}
 use mathlib.Core.Option.{some}
 use Prim.Native.Nat.{ℕ, _+_, _*_, _<_, _≤_}
@@ -15,7 +15,7 @@ use Rattle.meaning.proofs.Tests.{is-true}
 use Rattle.meaning.proofs.ListLaws.{map-in, map-out, below-in, below-out}
 use Rattle.meaning.proofs.Spans.{covers-in, covers-out, ends-exact}
 use Rattle.meaning.proofs.Levels.{entity-power}
-use Rattle.file.specs.Format.{statedBy, N, field, fromOf, toOf, periodOf, credentialIn, bodyOf, bodyIn, meaningOf, credentials}
+use Rattle.file.specs.Format.{statedBy, N, field, serialOf, fromOf, toOf, periodOf, credentialIn, bodyOf, bodyIn, meaningOf, credentials}
 use Rattle.file.specs.Reading.{uses}
 use Rattle.file.specs.Values.{Read, valueOf, found, foundOf, foundIn}
 use Rattle.file.specs.Conditions.{Head, Dated, Good, GoodBelow, Accepted}
@@ -25,7 +25,7 @@ use Rattle.file.specs.declared.Found.the-variants as F
 use Rattle.file.proofs.Uses.{by-kind}
 use Rattle.file.proofs.Faults.{fault-none}
 use Rattle.file.proofs.Readable.{found-value, found-end}
-use Rattle.file.proofs.Refusals.{head-read, ranges-in, zeros-in}
+use Rattle.file.proofs.Refusals.{head-read, ranges-in, zeros-in, less}
 
 -- what a kind up to 5 has of the bytes g: a body, whose set is below 2 ^ 32, and which states these bytes
 pub record Bodied (g : ℕ → ℕ) (k : ℕ) : Type 0 where
@@ -84,7 +84,7 @@ module _ (f : List ℕ) (h : Head f) (i : ℕ) (g : Good f i) where
   good-found : foundIn f i ≡ foundOf f i (bodyIn f i) → Read f i
   good-found q =
       let e = good-body in
-      record { value = valueOf f i (e .body); found = q ∙ rw (e .read) refl; means = rw (e .read) refl; states = e .states }
+      record { value = valueOf f i (e .body); found = q ∙ rw (e .read) refl; means = rw (e .read) refl; states = e .states; serial = refl }
 
 module _ (f : List ℕ) (h : Head f) (good : GoodBelow f (N f)) where
   -- the period at a position below N is the one of its bytes
@@ -148,6 +148,15 @@ module _ (f : List ℕ) (a : Accepted f) where
       let o : T (covers (periodOf f i) m) → (fromOf f i ≤ m) × (m < toOf f i + 1) = covers-out (periodOf f i) m in
       subst⁻¹ (λ (v : Period). T (covers v m) ↔ ((fromOf f i ≤ m) × (m ≤ toOf f i))) (accepted-period i h)
       ((λ t. (o t .0, let b = o t .1 in omega arith)), (λ b. covers-in (periodOf f i) m (b .0) (let l = b .1 in omega arith)))
+
+  -- no serial is zero, and none is that of two positions
+  pub accepted-serials : ((i : ℕ) → i < N f → ¬ (serialOf f i ≡ 0)) × ((i j : ℕ) → i < N f → j < N f → serialOf f i ≡ serialOf f j → i ≡ j)
+  accepted-serials = ((λ i l. a .good i l .serial .some), λ i j l m e. go i j l m e (less i j) (less j i))
+    where
+      go : (i j : ℕ) → i < N f → j < N f → serialOf f i ≡ serialOf f j → (i < j) ⊎ (j ≤ i) → (j < i) ⊎ (i ≤ j) → i ≡ j
+      go i j l m e (inl h) k = absurd (a .good j m .serial .new i h e)
+      go i j l m e (inr h) (inl k) = absurd (a .good i l .serial .new j k (sym e))
+      go i j l m e (inr h) (inr k) = omega arith
 
   -- the ends are the from values, and the to values plus one
   pub accepted-ends : (x : ℕ) → Mem x (ends (credentials f)) ↔ ((i : ℕ) × (i < N f) × ((x ≡ fromOf f i) ⊎ (x ≡ toOf f i + 1)))

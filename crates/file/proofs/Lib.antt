@@ -2,10 +2,12 @@ pub mod First
 pub mod Uses
 pub mod Sizes
 pub mod Dating
+pub mod Serials
 pub mod Faults
 pub mod Rows
 pub mod Readable
 pub mod Credentials
 pub mod Refusals
+pub mod Outside
 pub mod Accepted
 pub mod Claims

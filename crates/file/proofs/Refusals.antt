@@ -1,4 +1,4 @@
--- Refusals 1 to 8 are given exactly under document 01's conditions.
+-- Refusals 1 to 8 and 17 are given exactly under the documents' conditions.
 use mathlib.Core.Path.{_≡_, refl, sym, ap, ap₂, _∙_, subst, subst⁻¹}
 use mathlib.Core.Logic.{_⊎_, inl, inr, _↔_}
 use mathlib.Core.Bool.{Bool, true, false, _&&_, not}
@@ -13,9 +13,10 @@ use Rattle.meaning.specs.Table.{ends}
 use Rattle.meaning.proofs.Tests.{and-in, and-left, and-right, eq-in, all-out}
 use Rattle.file.specs.Refusals.{RefusalRow, Outcome, done, refused, first, _when_, _at_when_}
 use Rattle.file.specs.Format.{E, R, N, lengthFor, field, credentials}
-use Rattle.file.specs.Reading.{between, uses, inRange, zeros, undated, headRows, credentialRows, endsRow, reading, read}
+use Rattle.file.specs.Reading.{between, uses, inRange, zeros, undated, headRows, serialRow, checkRows, endsRow, reading, read, ofFile}
 use Rattle.file.proofs.Dating.{undated-in, not-both, dated-or-not}
-use Rattle.file.specs.Conditions.{Limits, Head, Ranges, Zeros, Dated, Undated, Good, GoodBelow, Accepted, Reached, Refused, short, limits, wrongLength, kind, range, unused, period, tooManyEnds}
+use Rattle.file.proofs.Serials.{taken-in, not-taken, fresh-or-taken}
+use Rattle.file.specs.Conditions.{Limits, Head, Ranges, Zeros, Dated, Undated, Fresh, Taken, Good, GoodBelow, Accepted, Reached, Refused, short, limits, wrongLength, kind, range, unused, period, serial, tooManyEnds}
 
 -- ---- the first row that holds
 
@@ -117,7 +118,7 @@ module _ (f : List ℕ) where
 
   -- the rows of n credentials from i on, and then the row of 8
   abbrev rowsFrom : ℕ → ℕ → List RefusalRow
-  rowsFrom i n = each (credentialRows f) (upFrom i n) ++ endsRow f ∷ []
+  rowsFrom i n = each (checkRows f) (upFrom i n) ++ endsRow f ∷ []
 
 module _ {A : Type 0} (a : A) (f : List ℕ) where
   short-passes : 6 ≤ length f → (rows : List RefusalRow) → first (shortRow f ∷ rows) a ≡ first rows a
@@ -149,13 +150,17 @@ module _ {A : Type 0} (a : A) (f : List ℕ) where
     period-passes : Dated f i → first (periodRow f i ∷ rows) a ≡ first rows a
     period-passes h = pass a (periodRow f i) rows (not-both f i h)
 
-  good-passes : (i : ℕ) → Good f i → (rows : List RefusalRow) → first (credentialRows f i ++ rows) a ≡ first rows a
-  good-passes i g rows =
-      kind-passes i (rangeRow f i ∷ zerosRow f i ∷ periodRow f i ∷ rows) (g .kind) ∙ range-passes i (zerosRow f i ∷ periodRow f i ∷ rows) (g .ranges)
-      ∙ zeros-pass i (periodRow f i ∷ rows) (g .zeros) ∙ period-passes i rows (g .period)
+    serial-passes : Fresh f i → first (serialRow f i ∷ rows) a ≡ first rows a
+    serial-passes h = pass a (serialRow f i) rows (not-taken f i h)
 
-  one-more : (i n : ℕ) → rowsFrom f i (suc n) ≡ credentialRows f i ++ rowsFrom f (suc i) n
-  one-more i n = append-assoc (credentialRows f i) (each (credentialRows f) (upFrom (suc i) n)) (endsRow f ∷ [])
+  good-passes : (i : ℕ) → Good f i → (rows : List RefusalRow) → first (checkRows f i ++ rows) a ≡ first rows a
+  good-passes i g rows =
+      kind-passes i (rangeRow f i ∷ zerosRow f i ∷ periodRow f i ∷ serialRow f i ∷ rows) (g .kind)
+      ∙ range-passes i (zerosRow f i ∷ periodRow f i ∷ serialRow f i ∷ rows) (g .ranges) ∙ zeros-pass i (periodRow f i ∷ serialRow f i ∷ rows) (g .zeros)
+      ∙ period-passes i (serialRow f i ∷ rows) (g .period) ∙ serial-passes i rows (g .serial)
+
+  one-more : (i n : ℕ) → rowsFrom f i (suc n) ≡ checkRows f i ++ rowsFrom f (suc i) n
+  one-more i n = append-assoc (checkRows f i) (each (checkRows f) (upFrom (suc i) n)) (endsRow f ∷ [])
 
   -- k good credentials are passed over
   good-pass : (k i t n u : ℕ) → k + i ≡ t → k + n ≡ u → ((j : ℕ) → i ≤ j → j < t → Good f j) → first (rowsFrom f i u) a ≡ first (rowsFrom f t n) a
@@ -174,7 +179,7 @@ module _ {A : Type 0} (a : A) (f : List ℕ) where
   unfolding reading
   good-read t n h e g = head-passes h (rowsFrom f 0 (N f)) ∙ good-pass t 0 t n (N f) (omega arith) (sym e) (λ j l m. g j m)
 
-  reached-read : (i : ℕ) → Reached f i → (n : ℕ) × (read f a ≡ first (credentialRows f i ++ rowsFrom f (suc i) n) a)
+  reached-read : (i : ℕ) → Reached f i → (n : ℕ) × (read f a ≡ first (checkRows f i ++ rowsFrom f (suc i) n) a)
   reached-read i r =
       let n = N f - suc i in
       let b = r .below in
@@ -198,22 +203,28 @@ module _ {A : Type 0} (a : A) (f : List ℕ) where
       ∙ give a (lengthRow f) (rowsFrom f 0 (N f)) (not-T (eqb (length f) (lengthFor (N f))) (λ t. e (eqb→eq _ _ t)))
   refused-read (kind i r h) =
       let x = reached-read i r in
-      let rows = rowsFrom f (suc i) (x .0) in
+      let rows = serialRow f i ∷ rowsFrom f (suc i) (x .0) in
       x .1 ∙ give a (kindRow f i) (rangeRow f i ∷ zerosRow f i ∷ periodRow f i ∷ rows) (lt→ltb 5 (field f i 0) h)
   refused-read (range i r k h) =
       let x = reached-read i r in
-      let rows = zerosRow f i ∷ periodRow f i ∷ rowsFrom f (suc i) (x .0) in
+      let rows = zerosRow f i ∷ periodRow f i ∷ serialRow f i ∷ rowsFrom f (suc i) (x .0) in
       x .1 ∙ kind-passes i (rangeRow f i ∷ rows) k ∙ give a (rangeRow f i) rows (not-T (inRange f i) (λ t. h (ranges-out f i t)))
   refused-read (unused i r k s h) =
       let x = reached-read i r in
-      let rows = periodRow f i ∷ rowsFrom f (suc i) (x .0) in
+      let rows = periodRow f i ∷ serialRow f i ∷ rowsFrom f (suc i) (x .0) in
       x .1 ∙ kind-passes i (rangeRow f i ∷ zerosRow f i ∷ rows) k ∙ range-passes i (zerosRow f i ∷ rows) s
       ∙ give a (zerosRow f i) rows (not-T (zeros f i) (λ t. h (zeros-out f i t)))
   refused-read (period i r k s z h) =
       let x = reached-read i r in
-      let rows = rowsFrom f (suc i) (x .0) in
+      let rows = serialRow f i ∷ rowsFrom f (suc i) (x .0) in
       x .1 ∙ kind-passes i (rangeRow f i ∷ zerosRow f i ∷ periodRow f i ∷ rows) k ∙ range-passes i (zerosRow f i ∷ periodRow f i ∷ rows) s
       ∙ zeros-pass i (periodRow f i ∷ rows) z ∙ give a (periodRow f i) rows (undated-in f i h)
+  refused-read (serial i r k s z d h) =
+      let x = reached-read i r in
+      let rows = rowsFrom f (suc i) (x .0) in
+      x .1 ∙ kind-passes i (rangeRow f i ∷ zerosRow f i ∷ periodRow f i ∷ serialRow f i ∷ rows) k
+      ∙ range-passes i (zerosRow f i ∷ periodRow f i ∷ serialRow f i ∷ rows) s ∙ zeros-pass i (periodRow f i ∷ serialRow f i ∷ rows) z
+      ∙ period-passes i (serialRow f i ∷ rows) d ∙ give a (serialRow f i) rows (taken-in f i h)
   refused-read (tooManyEnds h g l) =
       good-read (N f) 0 h (omega arith) g ∙ give a (endsRow f) [] (lt→ltb 64 (length (ends (credentials f))) l)
 
@@ -241,8 +252,12 @@ module _ (f : List ℕ) where
       Result : Type 0
       Result = Good f i ⊎ ((n p : ℕ) × Refused f n p)
 
+      by-serial : field f i 0 ≤ 5 → Ranges f i → Zeros f i → Dated f i → Fresh f i ⊎ Taken f i → Result
+      by-serial k s z d (inl h) = inl (record { kind = k; ranges = s; zeros = z; period = d; serial = h })
+      by-serial k s z d (inr h) = inr (17, i, serial i r k s z d h)
+
       by-period : field f i 0 ≤ 5 → Ranges f i → Zeros f i → Dated f i ⊎ Undated f i → Result
-      by-period k s z (inl h) = inl (record { kind = k; ranges = s; zeros = z; period = h })
+      by-period k s z (inl d) = by-serial k s z d (fresh-or-taken f i)
       by-period k s z (inr h) = inr (7, i, period i r k s z h)
 
       by-zeros : field f i 0 ≤ 5 → Ranges f i → Zeros f i ⊎ (¬ Zeros f i) → Result
@@ -317,13 +332,51 @@ module _ {A : Type 0} (a : A) (f : List ℕ) where
       go e (inl c) = c
       go e (inr (k, q, r)) = let x = refused-read a f r in let z : _≡_ {A = ℕ} 0 1 = cc in absurd (omega arith)
 
--- their numbers
-pub refused-low : (f : List ℕ) {n p : ℕ} → Refused f n p → n ≤ 8
-refused-low f (short h) = omega arith
-refused-low f (limits h l) = omega arith
-refused-low f (wrongLength h l e) = omega arith
-refused-low f (kind i r h) = omega arith
-refused-low f (range i r k h) = omega arith
-refused-low f (unused i r k s h) = omega arith
-refused-low f (period i r k s z h) = omega arith
-refused-low f (tooManyEnds h g l) = omega arith
+-- ---- 17
+
+module _ (f : List ℕ) where
+  -- credential i and all before it are as 17 has them
+  abbrev WrongSerial : ℕ → Type 0
+  WrongSerial i = Head f × (i < N f) × GoodBelow f i × (field f i 0 ≤ 5) × Ranges f i × Zeros f i × Dated f i × Taken f i
+
+  seventeen-out : {n i : ℕ} → Refused f n i → n ≡ 17 → WrongSerial i
+  seventeen-out (short h) e = absurd (omega arith)
+  seventeen-out (limits h l) e = absurd (omega arith)
+  seventeen-out (wrongLength h l q) e = absurd (omega arith)
+  seventeen-out (kind i r h) e = absurd (omega arith)
+  seventeen-out (range i r k h) e = absurd (omega arith)
+  seventeen-out (unused i r k s h) e = absurd (omega arith)
+  seventeen-out (period i r k s z h) e = absurd (omega arith)
+  seventeen-out (serial i r k s z d h) e = (r .head, r .below, r .good, k, s, z, d, h)
+  seventeen-out (tooManyEnds h g l) e = absurd (omega arith)
+
+  pub seventeen-exact : {A : Type 0} (a : A) (i : ℕ) → _≡_ {A = Outcome A} (read f a) (refused 17 i) ↔ WrongSerial i
+  seventeen-exact a i = (
+    (λ e. seventeen-out (refused-exact a f 17 i .0 e) refl),
+    λ (h, l, g, k, s, z, d, t). refused-read a f (serial i (record { head = h; below = l; good = g }) k s z d t),
+  )
+
+-- ---- their numbers
+
+pub refused-of-file : (f : List ℕ) {n p : ℕ} → Refused f n p → T (ofFile n)
+refused-of-file f (short h) = tt
+refused-of-file f (limits h l) = tt
+refused-of-file f (wrongLength h l e) = tt
+refused-of-file f (kind i r h) = tt
+refused-of-file f (range i r k h) = tt
+refused-of-file f (unused i r k s h) = tt
+refused-of-file f (period i r k s z h) = tt
+refused-of-file f (serial i r k s z d h) = tt
+refused-of-file f (tooManyEnds h g l) = tt
+
+-- they are not 0
+pub refused-some : (f : List ℕ) {n p : ℕ} → Refused f n p → 1 ≤ n
+refused-some f {n} r = go n (refused-of-file f r)
+  where
+    go : (n : ℕ) → T (ofFile n) → 1 ≤ n
+    go zero t = absurd t
+    go (suc n) t = omega arith
+
+-- a number that is none of them is not the number of a file's refusal
+pub not-of-file : (f : List ℕ) {n p : ℕ} → Refused f n p → (m : ℕ) → T (not (ofFile m)) → ¬ (n ≡ m)
+not-of-file f r m t e = T-not (ofFile m) t (subst (λ (k : ℕ). T (ofFile k)) e (refused-of-file f r))

@@ -1,4 +1,4 @@
--- The credentials file (document 01, 'The credentials file'): its numbers, its statements and periods, and the credentials that they are.
+-- The credentials file (document 01, 'The credentials file'; document 02, One and Two): its numbers, its statements and periods, and the credentials that they are.
 -- Multi-byte numbers are lowest byte first.
 use mathlib.Core.List.{List, [], _∷_, map}
 use mathlib.Core.Option.{Option, none, some}
@@ -30,19 +30,23 @@ R f = two f 2
 abbrev pub N : List ℕ → ℕ
 N f = two f 4
 
--- N statements of 8 bytes follow the sizes, then N periods of 8 bytes
+-- N statements of 12 bytes follow the sizes, then N periods of 8 bytes
 abbrev pub lengthFor : ℕ → ℕ
-lengthFor n = 6 + 16 * n
+lengthFor n = 6 + 20 * n
 
 abbrev pub statementAt : ℕ → ℕ
-statementAt i = 6 + 8 * i
+statementAt i = 6 + 12 * i
 
 abbrev pub periodAt : List ℕ → ℕ → ℕ
-periodAt f i = 6 + 8 * N f + 8 * i
+periodAt f i = 6 + 12 * N f + 8 * i
 
 -- byte j of statement i: 0 kind, 1 issuer A, 2 name r, 3 b, 4 s, 5 c, 6 t, 7 always zero
 abbrev pub field : List ℕ → ℕ → ℕ → ℕ
 field f i j = byte f (statementAt i + j)
+
+-- the serial of credential i: the last four bytes of its statement
+abbrev pub serialOf : List ℕ → ℕ → ℕ
+serialOf f i = four f (statementAt i + 8)
 
 -- the first and the last minute of the period of credential i
 abbrev pub fromOf : List ℕ → ℕ → ℕ

@@ -1,13 +1,13 @@
--- Refusals 1 to 8 of any bytes (document 01, 'Where each refusal is checked', stages head, credential, whole file; 7 as document 02's request One has it).
+-- Refusals 1 to 8 and 17 of any bytes (document 01, 'Where each refusal is checked', stages head, credential, whole file; 7 and 17 as document 02's requests One and Two have them).
 use mathlib.Core.Bool.{Bool, _&&_, _||_, not}
 use mathlib.Core.List.{List, [], _∷_, _++_}
 use Prim.Native.Nat.{ℕ}
 use lib.Dec.{eqb, leb, ltb}
 use lib.ListN.{length, getD}
-use Rattle.meaning.specs.Lists.{each, all, below}
+use Rattle.meaning.specs.Lists.{each, all, any, below}
 use Rattle.meaning.specs.Table.{ends}
 use Rattle.file.specs.Refusals.{RefusalRow, Outcome, first, _when_, _at_when_}
-use Rattle.file.specs.Format.{E, R, N, lengthFor, field, fromOf, toOf, credentials}
+use Rattle.file.specs.Format.{E, R, N, lengthFor, field, serialOf, fromOf, toOf, credentials}
 
 abbrev pub between : ℕ → ℕ → ℕ → Bool
 between low high x = leb low x && leb x high
@@ -48,7 +48,11 @@ zeros f i = all (λ j. eqb (field f i j) 0) (uses (field f i 0) .unused)
 abbrev pub undated : List ℕ → ℕ → Bool
 undated f i = ltb (toOf f i) (fromOf f i) || eqb (toOf f i) 4294967295
 
--- 4 to 7 of the credential at position i
+-- the serial of credential i is zero, or an earlier credential has it
+abbrev pub taken : List ℕ → ℕ → Bool
+taken f i = eqb (serialOf f i) 0 || any (λ j. eqb (serialOf f j) (serialOf f i)) (below i)
+
+-- 4 to 7 of the credential at position i, by its own bytes alone
 abbrev pub credentialRows : List ℕ → ℕ → List RefusalRow
 credentialRows f i =
     4 at i when (ltb 5 (field f i 0))
@@ -57,18 +61,30 @@ credentialRows f i =
     ∷ 7 at i when (undated f i)
     ∷ []
 
--- credentials in file order, each through 4 to 7
+-- 17 of the credential at position i
+abbrev pub serialRow : List ℕ → ℕ → RefusalRow
+serialRow f i = 17 at i when (taken f i)
+
+-- 4 to 7 and 17 of the credential at position i
+abbrev pub checkRows : List ℕ → ℕ → List RefusalRow
+checkRows f i = credentialRows f i ++ serialRow f i ∷ []
+
+-- credentials in file order, each through 4 to 7 and 17
 abbrev pub credentialsRows : List ℕ → List RefusalRow
-credentialsRows f = each (credentialRows f) (below (N f))
+credentialsRows f = each (checkRows f) (below (N f))
 
 -- 8
 abbrev pub endsRow : List ℕ → RefusalRow
 endsRow f = 8 when (ltb 64 (length (ends (credentials f))))
 
--- 1 to 8
+-- 1 to 7 and 17, then 8
 unfoldable pub reading : List ℕ → List RefusalRow
 reading f = headRows f ++ (credentialsRows f ++ endsRow f ∷ [])
 
 -- what reading a file answers, where its value on success is a
 abbrev pub read : {A : Type 0} → List ℕ → A → Outcome A
 read f a = first (reading f) a
+
+-- the numbers of these refusals
+abbrev pub ofFile : ℕ → Bool
+ofFile n = between 1 8 n || eqb n 17

@@ -10,7 +10,7 @@ use Rattle.meaning.specs.Lists.{if, any}
 use Rattle.meaning.specs.Credentials as M
 use Rattle.meaning.specs.Credentials.{_⟵_, _during_}
 use Rattle.file.specs.Refusals.{RefusalRow, Outcome, first, numberOf, placeOf}
-use Rattle.file.specs.Format.{statedBy, credentialIn, E, R, N, lengthFor, field, fromOf, toOf, roleOf, roleNumber, meaningOf, bodyIn, periodOf}
+use Rattle.file.specs.Format.{statedBy, credentialIn, E, R, N, lengthFor, field, serialOf, fromOf, toOf, roleOf, roleNumber, meaningOf, bodyIn, periodOf}
 use Rattle.file.specs.Reading.{uses, headRows, credentialRows}
 use Rattle.file.specs.declared.Used.{Used}
 use Rattle.file.specs.declared.Head.{Head}
@@ -75,7 +75,7 @@ abbrev pub readable : List ℕ → ℕ → Bool
 readable f i = clear (headRows f) && ltb i (N f) && clear (credentialRows f i)
 
 abbrev pub valueOf : List ℕ → ℕ → Body → Credential
-valueOf f i e = record { head = roleOf (field f i 1) (field f i 2); body = e; period = periodIn f i }
+valueOf f i e = record { serial = serialOf f i; head = roleOf (field f i 1) (field f i 2); body = e; period = periodIn f i }
 
 abbrev pub found : Credential → D.Found
 found c = F.Credential c
@@ -91,9 +91,10 @@ foundIn f i = if (readable f i) (foundOf f i (bodyIn f i)) F.End
 abbrev pub meantBy : Credential → M.Credential
 meantBy c = roleNumber (c .head) ⟵ meaningOf (c .body) during record { from = c .period .from; until = c .period .until }
 
--- What is read at a position: a value that means the credential there, and that states the bytes of its statement.
+-- What is read at a position: a value that means the credential there, states the bytes of its statement and has its serial.
 pub record Read (f : List ℕ) (i : ℕ) : Type 0 where
   pub value : Credential
   pub found : foundIn f i ≡ F.Credential value
   pub means : meantBy value ≡ credentialIn f i
   pub states : statedBy (value .body) ≡ field f i 0 ∷ field f i 3 ∷ field f i 4 ∷ field f i 5 ∷ field f i 6 ∷ []
+  pub serial : value .serial ≡ serialOf f i

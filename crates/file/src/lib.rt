@@ -1,10 +1,10 @@
-// The credentials file: its credentials as types, its sizes with refusals 1 to 3, and of one credential its period.
+// The credentials file: its credentials as types, its sizes with refusals 1 to 3, and of one credential its serial and its period.
 ghost use mathlib.Core.Path.{_≡_};
 ghost use Prim.Native.Nat.{_+_, _*_, _<_, _≤_};
 ghost use lib.ListN.{length};
 ghost use mathlib.Core.Bool.{_&&_};
 ghost use Rattle.meaning.specs.Credentials.{_·_};
-ghost use Rattle.file.specs.Format.{two, four, N};
+ghost use Rattle.file.specs.Format.{two, four, N, statementAt, serialOf};
 ghost use Rattle.file.specs.Reading.{between, credentialRows};
 ghost use Rattle.file.specs.Values.{headIn, noSizes, firstNumber, Headed, datesIn, periodIn};
 
@@ -29,8 +29,9 @@ pub enum Body {
     Disjoint(Role, Role),
 }
 
-// A credential with its period, which may be empty.
+// A credential with its serial and its period, which may be empty.
 pub struct Credential {
+    pub serial: u32,
     pub head: Role,
     pub body: Body,
     pub period: Period,
@@ -89,7 +90,7 @@ pub fn read_head(file: &[u8]) -> Head
         return no_sizes(2);
     }
     let n = credentials as usize;
-    if file.len() != 6 + 16 * n {
+    if file.len() != 6 + 20 * n {
         return no_sizes(3);
     }
     Head {
@@ -100,13 +101,21 @@ pub fn read_head(file: &[u8]) -> Head
     }
 }
 
+// The serial of credential i.
+pub fn serial_at(file: &[u8], i: usize) -> u32
+    requires { ⌜ statementAt i + 12 ≤ length (now file) ⌝ }
+    ensures { λ r. ⌜ r ≡ serialOf (now (file .entry)) i ⌝ }
+{
+    four_at(file, 14 + 12 * i)
+}
+
 // From and to of credential i.
 pub fn dates_at(file: &[u8], h: Head, i: usize) -> Dates
     requires { ⌜ (Headed (now file) h) × (i < N (now file)) ⌝ }
     ensures { λ r. ⌜ r ≡ datesIn (now (file .entry)) i ⌝ }
 {
     let n = h.credentials;
-    let p = 6 + 8 * n + 8 * i;
+    let p = 6 + 12 * n + 8 * i;
     Dates {
         from: four_at(file, p),
         to: four_at(file, p + 4),

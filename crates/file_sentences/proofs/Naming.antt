@@ -1,4 +1,4 @@
--- What the sentences of 5, 6 and 7 name is at fault.
+-- What the sentences of 5, 6, 7 and 17 name is at fault.
 use mathlib.Core.Path.{_≡_, refl, ap, subst}
 use mathlib.Core.Bool.{Bool, true, false, not}
 use mathlib.Core.Logic.{_⊎_, inl, inr, ⊎-elim}
@@ -11,14 +11,14 @@ use Rattle.meaning.specs.Lists.{if, all}
 use Rattle.meaning.proofs.Tests.{and-left, and-right}
 use Rattle.text.specs.Ascii.{ascii}
 use Rattle.text.specs.Lines.{decimal}
-use Rattle.file.specs.Format.{E, R, field, fromOf, toOf}
+use Rattle.file.specs.Format.{E, R, field, serialOf, fromOf, toOf}
 use Rattle.file.specs.Reading.{uses}
-use Rattle.file.specs.Conditions.{Ranges, Zeros, Undated}
+use Rattle.file.specs.Conditions.{Ranges, Zeros, Undated, Taken}
 use Rattle.file.proofs.Uses.{by-kind}
 use Rattle.sentences.specs.Words.{_then_, noEntity, noName}
 use Rattle.sentences.proofs.First.{Found, Absent, found-or}
 use Rattle.file_sentences.specs.FileSentences.{strayEntity, strayName, strayByte, rangeText}
-use Rattle.file_sentences.specs.Named.{EntityNamed, NameNamed, ByteNamed, PeriodNamed}
+use Rattle.file_sentences.specs.Named.{EntityNamed, NameNamed, ByteNamed, PeriodNamed, SerialNamed}
 
 -- 0 is in no list of positive numbers
 no-zero : (l : List ℕ) → T (all (λ x. ltb 0 x) l) → Mem 0 l → ⊥
@@ -98,3 +98,14 @@ module _ (f : List ℕ) (i : ℕ) where
       go : (b : Bool) → ltb (toOf f i) (fromOf f i) ≡ b → PeriodNamed f i
       go true h = inl (ltb-true (toOf f i) (fromOf f i) h, ap datesText h)
       go false h = ⊎-elim (λ l. let g = ltb-false (toOf f i) (fromOf f i) h in absurd (omega arith)) (λ e. inr (e, ap datesText h)) u
+
+  -- the sentence of 17, by whether the serial is zero
+  abbrev textOf : Bool → List ℕ
+  textOf b = if b (ascii "the serial is 0") (ascii "serial " then decimal (serialOf f i) then ascii ", an earlier credential has it")
+
+  pub serial-named : Taken f i → SerialNamed f i
+  serial-named u = go (eqb (serialOf f i) 0) refl
+    where
+      go : (b : Bool) → eqb (serialOf f i) 0 ≡ b → SerialNamed f i
+      go true h = inl (eqb-true (serialOf f i) 0 h, ap textOf h)
+      go false h = ⊎-elim (λ e. absurd (eqb-false (serialOf f i) 0 h e)) (λ j. inr (j, ap textOf h)) u

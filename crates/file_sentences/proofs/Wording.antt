@@ -33,7 +33,7 @@ short-line n =
     ap (λ (l : List ℕ). ascii "the file has " then l)
     (count n 0 0 0 0 (ascii "byte") (ascii "bytes") (λ t. refl) (λ t. refl) (λ t. refl) (λ t. refl) (ascii ", fewer than 6\n"))
 
-pub short-long-line : line 2 0 0 0 0 ≡ ascii "the file has " then ascii "more than 4102 bytes" then ascii ", fewer than 6"
+pub short-long-line : line 2 0 0 0 0 ≡ ascii "the file has " then ascii "more than 5126 bytes" then ascii ", fewer than 6"
 unfolding sentence fileWords
 short-long-line = refl
 
@@ -63,9 +63,9 @@ length-line n k right =
     (count n k right 0 0 (ascii "byte") (ascii "bytes") (λ t. refl) (λ t. refl) (λ t. refl) (λ t. refl) (ascii ", # {credential takes |credentials take }#\n"))
     ∙ ap (λ (l : List ℕ). ascii "the file has " then counted n (ascii " byte") (ascii " bytes") then ascii ", " then l) (takes-line k right)
 
-pub length-long-line : (k right : ℕ) → line 7 k right 0 0 ≡ ascii "the file has " then ascii "more than 4102 bytes" then ascii ", " then takes k right
+pub length-long-line : (k right : ℕ) → line 7 k right 0 0 ≡ ascii "the file has " then ascii "more than 5126 bytes" then ascii ", " then takes k right
 unfolding sentence fileWords
-length-long-line k right = ap (λ (l : List ℕ). ascii "the file has " then ascii "more than 4102 bytes" then ascii ", " then l) (takes-line k right)
+length-long-line k right = ap (λ (l : List ℕ). ascii "the file has " then ascii "more than 5126 bytes" then ascii ", " then l) (takes-line k right)
 
 pub kind-line : (i k : ℕ) → line 8 i k 0 0 ≡ ofCredential i (ascii "kind " then decimal k then ascii ", kinds are 0 to 5")
 unfolding sentence fileWords
@@ -97,11 +97,19 @@ pub last-line : (i y : ℕ) → line 13 i y 0 0 ≡ ofCredential i (ascii "to " 
 unfolding sentence fileWords
 last-line i y = refl
 
-pub ends-line : line 14 0 0 0 0 ≡ ascii "the periods have more than 64 ends"
+pub serial-zero-line : (i : ℕ) → line 14 i 0 0 0 ≡ ofCredential i (ascii "the serial is 0")
+unfolding sentence fileWords
+serial-zero-line i = refl
+
+pub serial-line : (i x : ℕ) → line 15 i x 0 0 ≡ ofCredential i (ascii "serial " then decimal x then ascii ", an earlier credential has it")
+unfolding sentence fileWords
+serial-line i x = refl
+
+pub ends-line : line 16 0 0 0 0 ≡ ascii "the periods have more than 64 ends"
 unfolding sentence fileWords
 ends-line = refl
 
-pub memberships-line : line 15 0 0 0 0 ≡ ascii "more than 1024 memberships"
+pub memberships-line : line 17 0 0 0 0 ≡ ascii "more than 1024 memberships"
 unfolding sentence fileWords
 memberships-line = refl
 

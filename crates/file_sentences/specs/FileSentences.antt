@@ -7,13 +7,17 @@ use lib.ListN.{length}
 use Rattle.meaning.specs.Lists.{if}
 use Rattle.text.specs.Ascii.{ascii}
 use Rattle.text.specs.Lines.{decimal}
-use Rattle.file.specs.Format.{E, R, N, lengthFor, field, fromOf, toOf}
+use Rattle.file.specs.Format.{E, R, N, lengthFor, field, serialOf, fromOf, toOf}
 use Rattle.file.specs.Reading.{between, uses}
 use Rattle.sentences.specs.Words.{_then_, firstOf, counted, noEntity, noName, Saying, _says_, said}
 
--- a length in bytes; no accepted file is longer than 4,102
+-- no accepted file is longer: 5,126 bytes
+abbrev pub longest : ℕ
+longest = lengthFor 256
+
+-- a length in bytes
 abbrev pub sizeText : ℕ → List ℕ
-sizeText n = if (ltb 4102 n) (ascii "more than 4102 bytes") (counted n (ascii " byte") (ascii " bytes"))
+sizeText n = if (ltb longest n) (ascii "more than 5126 bytes") (counted n (ascii " byte") (ascii " bytes"))
 
 -- 1
 abbrev pub shortText : List ℕ → List ℕ
@@ -32,7 +36,7 @@ lengthText f =
     ascii "the file has " then sizeText (length f) then ascii ", "
     then counted (N f) (ascii " credential takes ") (ascii " credentials take ") then decimal (lengthFor (N f))
 
--- 4 to 7 are said of credential i
+-- 4 to 7 and 17 are said of credential i
 abbrev pub ofCredential : ℕ → List ℕ → List ℕ
 ofCredential i what = ascii "credential " then decimal i then ascii ": " then what
 
@@ -67,6 +71,12 @@ periodText f i =
     if (ltb (toOf f i) (fromOf f i)) (ascii "from " then decimal (fromOf f i) then ascii " is above to " then decimal (toOf f i))
     (ascii "to " then decimal (toOf f i) then ascii ", the last minute is 4294967294")
 
+-- 17
+abbrev pub serialText : List ℕ → ℕ → List ℕ
+serialText f i =
+    if (eqb (serialOf f i) 0) (ascii "the serial is 0")
+    (ascii "serial " then decimal (serialOf f i) then ascii ", an earlier credential has it")
+
 -- the refusals of a file at a place, and 10 of its table
 abbrev pub fileSayings : List ℕ → ℕ → List Saying
 fileSayings f i =
@@ -79,6 +89,7 @@ fileSayings f i =
     ∷ (7 says ofCredential i (periodText f i))
     ∷ (8 says ascii "the periods have more than 64 ends")
     ∷ (10 says ascii "more than 1024 memberships")
+    ∷ (17 says ofCredential i (serialText f i))
     ∷ []
 
 -- What is said of a refusal of the file f, by its number and place; and the line that says it.

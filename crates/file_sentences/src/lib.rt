@@ -11,10 +11,10 @@ ghost use Rattle.file.specs.Reading.{between, uses};
 ghost use Rattle.sentences.specs.Words.{firstOf};
 ghost use Rattle.sentences.specs.Filling.{sentence};
 ghost use Rattle.file_sentences.specs.FileWords.{fileWords};
-ghost use Rattle.file_sentences.specs.FileSentences.{shortText, limitsText, lengthText, ofCredential, rangeText, unusedText, periodText, fileText, fileSentence};
+ghost use Rattle.file_sentences.specs.FileSentences.{shortText, limitsText, lengthText, ofCredential, rangeText, unusedText, periodText, serialText, fileText, fileSentence};
 use sentences::Sentence;
 
-// The line of a refusal of a file: 1 to 8, and 10 of its table. Returns how many bytes it has, and leaves the bytes after it as they were.
+// The line of a refusal of a file: 1 to 8 and 17, and 10 of its table. Returns how many bytes it has, and leaves the bytes after it as they were.
 pub fn file_line(out: &mut [u8; 256], file: &[u8], number: u32, place: u32) -> usize
     ensures { λ r. ⌜ LinedIn 256 (now (out .entry)) (now (out .exit)) r (fileSentence (now (file .entry)) number place) ⌝ }
 {
@@ -23,18 +23,20 @@ pub fn file_line(out: &mut [u8; 256], file: &[u8], number: u32, place: u32) -> u
         out,
         b"refused\n\
         the file has # {byte|bytes}, fewer than 6\n\
-        the file has more than 4102 bytes, fewer than 6\n\
+        the file has more than 5126 bytes, fewer than 6\n\
         # entities, 1 to 32 are allowed\n\
         # role names, 1 to 32 are allowed\n\
         # credentials, at most 256 are allowed\n\
         the file has # {byte|bytes}, # {credential takes |credentials take }#\n\
-        the file has more than 4102 bytes, # {credential takes |credentials take }#\n\
+        the file has more than 5126 bytes, # {credential takes |credentials take }#\n\
         credential #: kind #, kinds are 0 to 5\n\
         credential #: entity #, the file has # {entity|entities}\n\
         credential #: role name #, the file has # {role name|role names}\n\
         credential #: byte # is #, kind # has 0 there\n\
         credential #: from # is above to #\n\
         credential #: to #, the last minute is 4294967294\n\
+        credential #: the serial is 0\n\
+        credential #: serial #, an earlier credential has it\n\
         the periods have more than 64 ends\n\
         more than 1024 memberships\n",
         s,
@@ -54,8 +56,9 @@ fn said(file: &[u8], number: u32, place: u32) -> Sentence
         5 => range(file, place),
         6 => unused(file, place),
         7 => period(file, place),
-        8 => Sentence(14, [0; 4]),
-        10 => Sentence(15, [0; 4]),
+        8 => Sentence(16, [0; 4]),
+        10 => Sentence(17, [0; 4]),
+        17 => serial(file, place),
         _ => Sentence(0, [0; 4]),
     }
 }
@@ -64,7 +67,7 @@ fn short(file: &[u8]) -> Sentence
     ensures { λ r. ⌜ sentence fileWords r ≡ shortText (now (file .entry)) ⌝ }
 {
     let n = file.len();
-    if 4102 < n {
+    if 5126 < n {
         return Sentence(2, [0; 4]);
     }
     Sentence(1, [n as u32, 0, 0, 0])
@@ -89,8 +92,8 @@ fn wrong_length(file: &[u8]) -> Sentence
 {
     let n = file.len();
     let credentials = sentences::two_at(file, 4);
-    let right = 6 + 16 * credentials;
-    if 4102 < n {
+    let right = 6 + 20 * credentials;
+    if 5126 < n {
         return Sentence(7, [credentials, right, 0, 0]);
     }
     Sentence(6, [n as u32, credentials, right, 0])
@@ -123,7 +126,7 @@ fn period(file: &[u8], place: u32) -> Sentence
     ensures { λ r. ⌜ sentence fileWords r ≡ ofCredential place (periodText (now (file .entry)) place) ⌝ }
 {
     let n = sentences::two_at(file, 4);
-    let at = 6 + 8 * n as usize + 8 * place as usize;
+    let at = 6 + 12 * n as usize + 8 * place as usize;
     let from = four_at(file, at);
     let to = four_at(file, at + 4);
     if to < from {
@@ -132,11 +135,21 @@ fn period(file: &[u8], place: u32) -> Sentence
     Sentence(13, [place, to, 0, 0])
 }
 
+fn serial(file: &[u8], place: u32) -> Sentence
+    ensures { λ r. ⌜ sentence fileWords r ≡ ofCredential place (serialText (now (file .entry)) place) ⌝ }
+{
+    let x = four_at(file, 14 + 12 * place as usize);
+    if x == 0 {
+        return Sentence(14, [place, 0, 0, 0]);
+    }
+    Sentence(15, [place, x, 0, 0])
+}
+
 // Byte j of statement i; 0 after the end, as for all bytes here.
 fn field_at(file: &[u8], i: u32, j: u32) -> u32
     ensures { λ r. ⌜ r ≡ field (now (file .entry)) i j ⌝ }
 {
-    sentences::byte_at(file, 6 + 8 * i as usize + j as usize)
+    sentences::byte_at(file, 6 + 12 * i as usize + j as usize)
 }
 
 fn four_at(file: &[u8], p: usize) -> u32

@@ -15,14 +15,14 @@ use Rattle.meaning.proofs.Intervals.{intervals-fit}
 use Rattle.file.specs.Refusals.{RefusalRow, Outcome, done, refused, first, _when_, left}
 use Rattle.file.specs.Format.{credentials}
 use Rattle.file.specs.Conditions.{Accepted, Refused}
-use Rattle.file.proofs.Refusals.{Verdict, verdict}
+use Rattle.file.proofs.Refusals.{Verdict, verdict, refused-some, not-of-file}
 use Rattle.ends.specs.declared.Intervals.{Intervals}
 use Rattle.survey.specs.Ends.{padded}
 use Rattle.ends.specs.Intervals.{intervalsOut, intervalsIn}
 use Rattle.codec.specs.Bytes.{bytesOf}
 use Rattle.replies.specs.Interface.{word}
 use Rattle.replies.proofs.Leaving.{all-bytes}
-use Rattle.replies.proofs.Files.{numbers, refused-first, accepted-first}
+use Rattle.replies.proofs.Files.{refused-first, accepted-first}
 use Rattle.intervals_bytes.specs.Interface.{bounds, intervalsReply, intervalsBytes}
 use Rattle.intervals_bytes.specs.Bounds.{boundsIn, numberFor}
 use Rattle.intervals_bytes.proofs.Bounds.{padded-bounds, length-places}
@@ -71,20 +71,20 @@ module _ (f : List ℕ) (spans : ℕ) (b : List ℕ) (v : Intervals) (u : v ≡ 
   file-refused : {m p : ℕ} → Refused f m p → Stopped
   unfolding intervalsReply intervalsIn
   file-refused {m} {p} r =
-      let l = numbers r in
+      let l = refused-some f r in
       let x : v ≡ intervalsOut (refused m p) = u ∙ ap intervalsOut (refused-first f (spanRow beyond) vs r) in
       let q : v .number ≡ m = ap (λ (y : Intervals). y .number) x in
-      let z : k ≡ m = n ∙ ap (λ (y : ℕ). numberFor y (length b)) q ∙ keep (not (eqb (length b) 256)) m l in
+      let z : k ≡ m = n ∙ ap (λ (y : ℕ). numberFor y (length b)) q ∙ keep (not (eqb (length b) 256)) m (not-of-file f r 0 tt) (not-of-file f r 11 tt) in
       let w : v .place ≡ p = ap (λ (y : Intervals). y .place) x in
       record {
         reply = refused-first f (ownRows (eqb (length b) 256) beyond) (length vs) r ∙ (λ j. refused (sym z j) (sym w j));
         some = λ e. omega arith;
-        keeps = simp (ne-eqb k 10 (λ e. omega arith), ne-eqb k 13 (λ e. omega arith));
+        keeps = simp (ne-eqb k 10 (λ e. not-of-file f r 10 tt (sym z ∙ e)), ne-eqb k 13 (λ e. not-of-file f r 13 tt (sym z ∙ e)));
       }
     where
-      keep : (t : Bool) (m : ℕ) → (1 ≤ m) × (m ≤ 8) → if (t && (eqb m 0 || eqb m 11)) 9 m ≡ m
-      keep true m l = simp (ne-eqb m 0 (λ e. omega arith), ne-eqb m 11 (λ e. omega arith))
-      keep false m l = refl
+      keep : (t : Bool) (m : ℕ) → (m ≡ 0 → ⊥) → (m ≡ 11 → ⊥) → if (t && (eqb m 0 || eqb m 11)) 9 m ≡ m
+      keep true m h g = simp (ne-eqb m 0 h, ne-eqb m 11 g)
+      keep false m h g = refl
 
   -- ---- an accepted file
 

@@ -23,7 +23,7 @@ pairsIn [] = []
 pairsIn (x ∷ []) = []
 pairsIn (x ∷ y ∷ l) = record { from = x; until = y } ∷ pairsIn l
 
--- 1 to 8, then 9 for any other length, then 11 for a bit beyond the last span; on success the count of the intervals
+-- 1 to 8 and 17, then 9 for any other length, then 11 for a bit beyond the last span; on success the count of the intervals
 unfoldable pub intervalsReply : List ℕ → ℕ → List ℕ → Outcome ℕ
 intervalsReply f spans b =
     let es : List ℕ = ends (credentials f) in

@@ -22,7 +22,7 @@ pub fn intervals(bounds: &mut [u8], file: &[u8], spans: u64) -> u64
     v.count as u64
 }
 
-// The refusal's number, with 9 for a list of other than 256 bytes after 1 to 8 and before 11.
+// The refusal's number, with 9 for a list of other than 256 bytes after the file's and before 11.
 fn number_for(number: u32, size: usize) -> u32
     ensures { λ r. ⌜ r ≡ numberFor number size ⌝ }
 {

@@ -48,6 +48,10 @@ statementText Ar e = roleText Ar ++ (arrow ++ bodyText e)
 abbrev pub periodText : Period → List ℕ
 periodText v = field (v .from) 46 ++ (46 ∷ field (v .until - 1) 10)
 
--- position, head, body, period
+-- #serial, a comma and a space
+abbrev pub serialText : ℕ → List ℕ
+serialText serial = 35 ∷ (field serial 44 ++ 32 ∷ [])
+
+-- position, #serial, head, body, period
 abbrev pub credentialLine : ℕ → Credential → List ℕ
-credentialLine i c = label i ++ (statementText (c .head) (c .body) ++ (44 ∷ 32 ∷ periodText (c .period)))
+credentialLine i c = label i ++ (serialText (c .serial) ++ (statementText (c .head) (c .body) ++ (44 ∷ 32 ∷ periodText (c .period))))

@@ -5,26 +5,37 @@ ghost use mathlib.Core.Path.{_≡_};
 ghost use Prim.Native.Nat.{_+_, _-_, _≤_};
 ghost use lib.ListN.{length};
 ghost use Rattle.text.specs.Lines.{Put, Lined};
-ghost use Rattle.notation.specs.Notation.{roleText, linkedText, bodyText, statementText, periodText, credentialLine};
+ghost use Rattle.notation.specs.Notation.{roleText, linkedText, bodyText, statementText, serialText, periodText, credentialLine};
 use file::Body;
 use file::Credential;
 use file::Period;
 use file::Role;
 use file::RoleName;
 
-// Position, head, body, period.
+// Position, #serial, head, body, period.
 pub fn credential_line(out: &mut [u8; 128], position: u32, c: Credential) -> usize
     ensures { λ r. ⌜ Lined (now (out .entry)) (now (out .exit)) r (credentialLine position c) ⌝ }
 {
     let body = c.body;
     let colon = text::put_field(out, 0, position, b':');
-    let head_at = text::put_byte(out, colon, b' ');
+    let serial_at = text::put_byte(out, colon, b' ');
+    let head_at = put_serial(out, serial_at, c.serial);
     let comma = put_statement(out, head_at, c.head, body);
     let from_at = text::put_bytes(out, comma, b", ");
     put_period(out, from_at, c.period)
 }
 
 // Each private function writes at `at` and returns the next place. What stands before `at` and from that place on stays.
+
+// #serial, a comma and a space
+fn put_serial(out: &mut [u8], at: usize, serial: u32) -> usize
+    requires { ⌜ at + 13 ≤ length (now out) ⌝ }
+    ensures { λ r. ⌜ Put (now (out .entry)) (now (out .exit)) at r 13 (serialText serial) ⌝ }
+{
+    let number_at = text::put_byte(out, at, b'#');
+    let comma = text::put_field(out, number_at, serial, b',');
+    text::put_byte(out, comma, b' ')
+}
 
 // A.r
 fn put_role(out: &mut [u8], at: usize, role: Role) -> usize

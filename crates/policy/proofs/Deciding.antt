@@ -6,7 +6,7 @@ use Rattle.meaning.specs.Lists.{below}
 use Rattle.file.specs.declared.Head.{Head}
 use Rattle.file.specs.declared.Refusal.{Refusal}
 use Rattle.file.specs.Format.{N}
-use Rattle.file.specs.Reading.{headRows, credentialRows, credentialsRows}
+use Rattle.file.specs.Reading.{headRows, checkRows, credentialsRows}
 use Rattle.file.specs.Values.{refusalOf, firstNumber, firstRefusal, headIn}
 use Rattle.file.proofs.First.{first-clear, refusal-stopped, refusal-passed, refusal-number-at, numbered-each}
 use Rattle.file.proofs.Sizes.{number-read, headed-read}
@@ -44,7 +44,7 @@ module _ (f p : List ℕ) where
           record {
             refusal = sym
                 (passes ∙ d .refusal
-                ∙ ap refusalOf (first-clear {A = ℕ} (credentialsRows f) 0 (numbered-each (credentialRows f) (below (N f)) (λ x. tt)) (sym c ∙ s)));
+                ∙ ap refusalOf (first-clear {A = ℕ} (credentialsRows f) 0 (numbered-each (checkRows f) (below (N f)) (λ x. tt)) (sym c ∙ s)));
             entities = λ _. g .entities;
             names = λ _. g .names;
             policy = λ _. policy-of f p h g (d .each s);

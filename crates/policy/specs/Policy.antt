@@ -63,7 +63,7 @@ pub record PolicyOf (f p : List ℕ) (n : ℕ) : Type 0 where
   pub decoded : Decoded p n
   pub means : credentialsOf p n ≡ credentials f
 
--- A file that passes 1 to 7 was decoded, and these are its sizes; otherwise the refusal.
+-- A file that passes 1 to 7 and 17 was decoded, and these are its sizes; otherwise the refusal.
 pub record Decodes (f p : List ℕ) (s : Sizes) : Type 0 where
   pub refusal : record { number = s .number; place = s .place } ≡ firstRefusal (headRows f ++ credentialsRows f)
   pub entities : s .number ≡ 0 → s .entities ≡ E f

@@ -8,7 +8,7 @@ use Rattle.meaning.specs.Lists.{if}
 use Rattle.meaning.specs.Credentials.{_·_}
 use Rattle.file.specs.declared.Refusal.{Refusal}
 use Rattle.file.specs.Format.{N, byte, field, fromOf, toOf}
-use Rattle.file.specs.Reading.{credentialRows, credentialsRows}
+use Rattle.file.specs.Reading.{credentialRows, checkRows, credentialsRows}
 use Rattle.file.specs.Values.{firstNumber, firstRefusal}
 
 -- a body as a number, of b, s, c, t
@@ -45,7 +45,7 @@ pub record Worded (f p : List ℕ) (i : ℕ) : Type 0 where
 
 -- r is the number of the refusal of credential i, or the credential was stored after those below it
 pub record OneDecoded (f : List ℕ) (i : ℕ) (p p′ : List ℕ) (r : ℕ) : Type 0 where
-  pub number : r ≡ firstNumber (credentialRows f i)
+  pub number : r ≡ firstNumber (checkRows f i)
   pub stored : r ≡ 0 → Worded f p′ i
   pub kept : (j : ℕ) → j < i → Worded f p j → Worded f p′ j
 

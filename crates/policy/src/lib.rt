@@ -1,10 +1,11 @@
-// A file that passes 1 to 7, decoded once: for each credential two numbers, its statement and its period.
+// A file that passes 1 to 7 and 17, decoded once: for each credential two numbers, its statement and its period.
 ghost use mathlib.Core.Path.{_≡_};
 ghost use Prim.Native.Nat.{_+_, _<_, _≤_};
 ghost use lib.ListN.{length};
 ghost use Rattle.meaning.specs.Credentials.{_·_, covers};
 ghost use Rattle.file.specs.Format.{N, byte, statementAt, field};
 ghost use Rattle.file.specs.Values.{Headed};
+ghost use Rattle.serials.specs.Serials.{Greatest};
 ghost use Rattle.policy.specs.Policy.{credentialOf, statementIn, periodIn, Decodes};
 ghost use Rattle.policy.specs.Steps.{bodyAt, wordIn, periodNumber, stored, OneDecoded, AllDecoded};
 use file::Entity;
@@ -13,7 +14,7 @@ use file::Period;
 use file::Refusal;
 use file::RoleName;
 
-// Number and place of the refusal, or 0, 0 and the sizes of a file that passes 1 to 7.
+// Number and place of the refusal, or 0, 0 and the sizes of a file that passes 1 to 7 and 17.
 pub struct Sizes {
     pub number: u32,
     pub place: u32,
@@ -39,7 +40,7 @@ pub fn room() -> [u64; 512]
     [0; 512]
 }
 
-// Refusals 1 to 7; where there is none, the policy then has the file's credentials.
+// Refusals 1 to 7 and 17; where there is none, the policy then has the file's credentials.
 pub fn decode(policy: &mut [u64; 512], file: &[u8]) -> Sizes
     ensures { λ r. ⌜ Decodes (now (file .entry)) (now (policy .exit)) r ⌝ }
 {
@@ -134,7 +135,7 @@ fn word_at(file: &[u8], i: usize) -> u64
     requires { ⌜ (statementAt i + 8 ≤ length (now file)) × (field (now file) i 3 < 32) ⌝ }
     ensures { λ r. ⌜ r ≡ wordIn (now (file .entry)) i ⌝ }
 {
-    let at = 6 + 8 * i;
+    let at = 6 + 12 * i;
     let kind = widths::wide8(file[at]) as u64;
     let head = role_at(file, at + 1);
     let body = body_at(file, kind, at + 3);
@@ -157,14 +158,17 @@ fn put(policy: &mut [u64], i: usize, statement: u64, period: u64)
     policy[2 * i + 1] = period;
 }
 
-// Stores credential i and returns 0, or returns the number of the first of refusals 4 to 7 that it has.
-fn decode_one(policy: &mut [u64; 512], file: &[u8], h: Head, i: usize) -> u32
-    requires { ⌜ (Headed (now file) h) × (i < N (now file)) ⌝ }
+// Stores credential i and returns 0, or returns the number of the first of refusals 4 to 7 and 17 that it has. `greatest` is the greatest serial before it.
+fn decode_one(policy: &mut [u64; 512], file: &[u8], h: Head, i: usize, greatest: u32) -> u32
+    requires { ⌜ (Headed (now file) h) × (i < N (now file)) ⌝ ∗ ⌜ Greatest (now file) i greatest ⌝ }
     ensures { λ r. ⌜ OneDecoded (now (file .entry)) i (now (policy .entry)) (now (policy .exit)) r ⌝ }
 {
-    let number = faults::fault(file, h, i);
-    if number != 0 {
-        return number;
+    let fault = faults::fault(file, h, i);
+    if fault != 0 {
+        return fault;
+    }
+    if serials::taken(file, i, greatest) {
+        return 17;
     }
     let statement = word_at(file, i);
     let period = period_word(file::read_period(file, h, i));
@@ -178,15 +182,17 @@ fn decode_all(policy: &mut [u64; 512], file: &[u8], h: Head) -> Refusal
     ensures { λ r. ⌜ AllDecoded (now (file .entry)) (now (policy .exit)) r ⌝ }
 {
     let n = h.credentials;
+    let mut greatest = 0;
     let mut i = 0;
     while i < n {
-        let number = decode_one(policy, file, h, i);
+        let number = decode_one(policy, file, h, i, greatest);
         if number != 0 {
             return Refusal {
                 number,
                 place: i as u32,
             };
         }
+        greatest = serials::greatest_with(file, i, greatest);
         i += 1;
     }
     Refusal {

@@ -63,9 +63,9 @@ fn print_steps(
     }
 }
 
-// Says to standard error what a refusal of a query means: up to 8 it is the file's, from 10 on the request's; 9 is not given here.
+// Says to standard error what a refusal of a query means: 1 to 8 and 17 are the file's, 10 to 13 the request's; 9 is not given here.
 fn explain(file: &[u8], q: Query, number: u32, place: u32) {
-    if number < 10 {
+    if (number < 10) | (number == 17) {
         console::explain(file, number, place);
         return;
     }

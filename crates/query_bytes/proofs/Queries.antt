@@ -39,7 +39,7 @@ module _ (b : StepLists) where
 
 -- ---- lists that are not of one length
 
--- a call that writes or clears lists has no refusal of 1 to 9
+-- a call that is not refused writes its lists
 done-writes : {A : Type 0} {a : A} {o : Outcome A} → o ≡ done a → writes o ≡ false → ⊥
 done-writes e w = subst⁻¹ T (sym w ∙ ap writes e) tt
 

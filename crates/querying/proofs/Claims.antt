@@ -16,7 +16,7 @@ module _ (f : List ℕ) (q : Request) (t : StepLists) {reply : Outcome Counts} {
   pub refusals-exact : (n p : ℕ) → reply ≡ refused n p ↔ RefusedQuery f q t n p
   refusals-exact = Refusals.refused-exact f q t d
 
-  -- 10: none of 1 to 9, 11 and 12, and more than L memberships at the minute.
+  -- 10: none of 1 to 9, 11, 12 and 17, and more than L memberships at the minute.
   pub ten-exact : reply ≡ refused 10 0 ↔ (Askable f q t × (size t < membersFor f q))
   ten-exact = Refusals.ten-exact f q t d
 

@@ -1,4 +1,4 @@
--- The refusals of querying are given exactly under document 01's conditions.
+-- The refusals of querying are given exactly under the documents' conditions.
 use mathlib.Core.Path.{_≡_, refl, ap, _∙_, subst}
 use mathlib.Core.Logic.{_⊎_, inl, inr, _↔_}
 use mathlib.Core.Bool.{Bool}
@@ -14,7 +14,7 @@ use Rattle.meaning.proofs.Claims.{members-exact, proofs-and-rules}
 use Rattle.file.specs.Refusals.{RefusalRow, Outcome, done, refused, first}
 use Rattle.file.specs.Format.{credentials}
 use Rattle.file.proofs.Claims.{within-format}
-use Rattle.file.proofs.Refusals.{pass, give, refused-low, by-test, less}
+use Rattle.file.proofs.Refusals.{pass, give, not-of-file, by-test, less}
 use Rattle.asking.specs.Asking.{Request, StepLists, size, Askable}
 use Rattle.asking.specs.Conditions.{RefusedRequest, file, lengths, numbers, minute}
 use Rattle.asking.proofs.Asked.{askable-passes}
@@ -22,12 +22,12 @@ use Rattle.asking.proofs.Requests.{RequestVerdict, request-verdict, call-refuse
 use Rattle.querying.specs.Querying.{Counts, counts, minuteFullRow, noneRow, levelFor, replyWith, QueryEnding, querying, Queried}
 use Rattle.querying.specs.Conditions.{membersFor, RefusedQuery, request, full, none}
 
--- the numbers of a request's refusals
-request-low : {f : List ℕ} {q : Request} {t : StepLists} {n p : ℕ} → RefusedRequest f q t n p → (n ≡ 10 → ⊥) × (n ≡ 13 → ⊥)
-request-low {f} (file r) = let l = refused-low f r in ((λ e. omega arith), λ e. omega arith)
-request-low (lengths c h) = ((λ e. omega arith), λ e. omega arith)
-request-low (numbers c o h) = ((λ e. omega arith), λ e. omega arith)
-request-low (minute c o n m) = ((λ e. omega arith), λ e. omega arith)
+-- a request's refusals are neither 10 nor 13, which the query itself gives
+not-10-or-13 : {f : List ℕ} {q : Request} {t : StepLists} {n p : ℕ} → RefusedRequest f q t n p → (n ≡ 10 → ⊥) × (n ≡ 13 → ⊥)
+not-10-or-13 {f} (file r) = (not-of-file f r 10 tt, not-of-file f r 13 tt)
+not-10-or-13 (lengths c h) = ((λ e. omega arith), λ e. omega arith)
+not-10-or-13 (numbers c o h) = ((λ e. omega arith), λ e. omega arith)
+not-10-or-13 (minute c o n m) = ((λ e. omega arith), λ e. omega arith)
 
 module _ (f : List ℕ) (q : Request) (t : StepLists) where
   abbrev Proved : Type 0
@@ -102,12 +102,12 @@ module _ (f : List ℕ) (q : Request) (t : StepLists) where
   -- ---- by number
 
   ten-out : {n p : ℕ} → RefusedQuery f q t n p → n ≡ 10 → Askable f q t × (size t < membersFor f q)
-  ten-out (request r) e = absurd (request-low r .0 e)
+  ten-out (request r) e = absurd (not-10-or-13 r .0 e)
   ten-out (full a h) e = (a, h)
   ten-out (none a h n) e = absurd (omega arith)
 
   thirteen-out : {n p : ℕ} → RefusedQuery f q t n p → n ≡ 13 → Askable f q t × (membersFor f q ≤ size t) × ¬ Proved
-  thirteen-out (request r) e = absurd (request-low r .1 e)
+  thirteen-out (request r) e = absurd (not-10-or-13 r .1 e)
   thirteen-out (full a h) e = absurd (omega arith)
   thirteen-out (none a h n) e = (a, h, n)
 

@@ -20,7 +20,7 @@ use Rattle.store.specs.Entries.{roleIn, setIn}
 use Rattle.store.specs.Notes.{levelOf}
 use Rattle.store.proofs.Keys.{role-of-key, set-of-key}
 use Rattle.asking.specs.Asking.{Request, StepLists, stepLists, size, asking}
-use Rattle.asking.proofs.Asked.{asked-refused, asked-passed, asked-low}
+use Rattle.asking.proofs.Asked.{asked-refused, asked-passed, asked-not}
 use Rattle.derivation.specs.HandedOut.{HandedOut, words}
 use Rattle.answering.specs.Steps.{upTo}
 use Rattle.finding.specs.declared.Found.{Found}
@@ -105,10 +105,10 @@ module _ (f : List ℕ) (q : Request) (t : StepLists) where
     }
       where
         no-10 : r .number ≡ 10 → ⊥
-        no-10 = asked-low f q t r e h .2
+        no-10 = asked-not f q t r e h 10 tt
 
         no-13 : r .number ≡ 13 → ⊥
-        no-13 z = omega (arith, asked-low f q t r e h .1)
+        no-13 = asked-not f q t r e h 13 tt
 
     -- the search was by the credentials of the file
     module _ (judged : r .number ≡ 0) {cs : List Credential} (means : cs ≡ credentials f) {keys notes : List ℕ} {g : Found} (finds : Finds cs (q .minute) (q .role) (q .set) (size t) keys notes g) (small : q .set < 2 ^ 32) where

@@ -12,7 +12,7 @@ use Rattle.asking.specs.Conditions.{RefusedRequest}
 abbrev pub membersFor : List ℕ → Request → ℕ
 membersFor f q = length (members (credentials f) (q .minute))
 
--- `RefusedQuery f q t n p`: the condition of refusal n holds at place p, and none above it does; a request that is askable is refused none of 1 to 9, 11 and 12
+-- `RefusedQuery f q t n p`: the condition of refusal n holds at place p, and none above it does; a request that is askable is refused none of 1 to 9, 11, 12 and 17
 pub data RefusedQuery (f : List ℕ) (q : Request) (t : StepLists) : ℕ → ℕ → Type 0 where
   request : {n p : ℕ} → RefusedRequest f q t n p → RefusedQuery f q t n p
   full : Askable f q t → size t < membersFor f q → RefusedQuery f q t 10 0

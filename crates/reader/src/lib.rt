@@ -71,9 +71,10 @@ fn value_at(file: &[u8], h: Head, i: usize) -> Credential
     requires { ⌜ (Headed (now file) h) × (i < N (now file)) × (firstNumber (credentialRows (now file) i) ≡ 0) ⌝ }
     ensures { λ r. ⌜ found r ≡ foundOf (now (file .entry)) i (bodyIn (now (file .entry)) i) ⌝ }
 {
-    let at = 6 + 8 * i;
+    let at = 6 + 12 * i;
     let v = file::read_period(file, h, i);
     Credential {
+        serial: file::serial_at(file, i),
         head: role_of(file[at + 1], file[at + 2]),
         body: body_of(
             file[at],

@@ -1,36 +1,25 @@
--- A file that is refused, or accepted: the answer of a call whose own refusals come after 1 to 8.
+-- A file that is refused, or accepted: the answer of a call whose own refusals come after the file's.
 use mathlib.Core.Path.{_≡_, ap, _∙_, subst⁻¹}
 use mathlib.Core.Logic.{inl, inr}
 use mathlib.Core.List.{List, _++_}
-use Prim.Native.Nat.{ℕ, _≤_}
+use Prim.Native.Nat.{ℕ}
 use native.Mathlib.Omega.{arith}
 use borrow.Author.Tests.{ne-eqb}
 use Rattle.meaning.specs.Table.{ends}
 use Rattle.file.specs.Refusals.{RefusalRow, Outcome, done, refused, first, left}
 use Rattle.file.specs.Format.{credentials}
 use Rattle.file.specs.Reading.{reading}
-use Rattle.file.specs.Conditions.{Accepted, Refused, short, limits, wrongLength, kind, range, unused, period, tooManyEnds}
+use Rattle.file.specs.Conditions.{Accepted, Refused}
 use Rattle.file.proofs.First.{after, first-append}
-use Rattle.file.proofs.Refusals.{Verdict, verdict, accepted-read, refused-read}
+use Rattle.file.proofs.Refusals.{Verdict, verdict, accepted-read, refused-read, refused-some, not-of-file}
 use Rattle.ends.specs.declared.Ends.{Ends}
 use Rattle.ends.specs.Ends.{endsOut, endsIn}
 
--- a file's refusals are 1 to 8
-pub numbers : {f : List ℕ} {n p : ℕ} → Refused f n p → (1 ≤ n) × (n ≤ 8)
-numbers (short h) = (omega arith, omega arith)
-numbers (limits h l) = (omega arith, omega arith)
-numbers (wrongLength h l e) = (omega arith, omega arith)
-numbers (kind i r h) = (omega arith, omega arith)
-numbers (range i r k h) = (omega arith, omega arith)
-numbers (unused i r k s h) = (omega arith, omega arith)
-numbers (period i r k s z h) = (omega arith, omega arith)
-numbers (tooManyEnds h g l) = (omega arith, omega arith)
-
--- they leave a list as it was
+-- a file's refusals leave a list as it was
 pub refused-left : {f : List ℕ} {n p : ℕ} → Refused f n p → (before written : List ℕ) → left {A = ℕ} (refused n p) before written ≡ before
-refused-left {n = n} r before written = let k = numbers r in simp (ne-eqb n 10 (λ e. omega arith), ne-eqb n 13 (λ e. omega arith))
+refused-left {f} {n = n} r before written = simp (ne-eqb n 10 (not-of-file f r 10 tt), ne-eqb n 13 (not-of-file f r 13 tt))
 
--- the rows after 1 to 8 decide where the file is accepted
+-- the rows after the file's decide where it is accepted
 module _ {A : Type 0} (f : List ℕ) (more : List RefusalRow) (a : A) where
   abbrev then : Outcome A → Outcome A
   then o = after o (first more a)
@@ -67,4 +56,4 @@ module _ (f : List ℕ) (e : Ends) (u : e ≡ endsIn f) where
     where
       go : Verdict f → Accepted f × (e ≡ endsOut (done all))
       go (inl c) = (c, of-accepted c)
-      go (inr (n, p, r)) = let k = numbers r in let q = ap (λ (x : Ends). x .number) (of-refused r) in absurd (omega arith)
+      go (inr (n, p, r)) = let k = refused-some f r in let q = ap (λ (x : Ends). x .number) (of-refused r) in absurd (omega arith)

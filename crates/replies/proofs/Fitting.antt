@@ -26,7 +26,7 @@ steps-whole b n z =
       eq-eqb (length (b .sets) % 4) 0 (omega (arith, z .sets)),
     ) refl
 
--- 9 comes first after 1 to 8
+-- 9 comes first after the file's refusals
 pub asked-nine : (f : List ℕ) (q : Request) (t : StepLists) → oneLength t ≡ false → {X : Type 0} (more : List RefusalRow) (a b : X)
     → first (asking f q t ++ more) a ≡ first (reading f ++ (9 when true ∷ [])) b
 unfolding asking

@@ -1,4 +1,4 @@
--- Refusals 1 to 8, then 9.
+-- The refusals of a file, then 9.
 use mathlib.Core.Path.{_≡_, refl, sym, ap}
 use mathlib.Core.Bool.{Bool, true, false, _||_, not}
 use mathlib.Core.List.{List, [], _∷_, _++_}
@@ -8,7 +8,7 @@ use Rattle.meaning.specs.Lists.{all, each, below}
 use Rattle.meaning.proofs.Tests.{and-left, and-right, is-false}
 use Rattle.file.specs.Refusals.{RefusalRow, Outcome, refused, first, _when_}
 use Rattle.file.specs.Format.{N}
-use Rattle.file.specs.Reading.{headRows, credentialRows, credentialsRows, endsRow, reading}
+use Rattle.file.specs.Reading.{headRows, checkRows, credentialsRows, endsRow, reading}
 use Rattle.ends.specs.declared.Ends.{Ends}
 use Rattle.ends.specs.Ends.{endsIn}
 use Rattle.asking.proofs.Asked.{all-append}
@@ -34,7 +34,7 @@ nine-word {A} {B} value other (x ∷ rows) a b = go (x .holds) (nine-word value 
     go true e = refl
     go false e = e
 
--- ---- none of 1 to 9 writes or clears a list
+-- ---- neither the refusals of a file nor 9 write or clear a list
 
 abbrev keeps : RefusalRow → Bool
 keeps r = not (eqb (r .number) 10 || eqb (r .number) 13)
@@ -55,7 +55,7 @@ reading-keeps : (f : List ℕ) → T (all keeps (reading f))
 unfolding reading
 reading-keeps f =
     all-append keeps (headRows f) (credentialsRows f ++ endsRow f ∷ []) tt
-    (all-append keeps (credentialsRows f) (endsRow f ∷ []) (each-keeps (credentialRows f) (below (N f)) (λ i. tt)) tt)
+    (all-append keeps (credentialsRows f) (endsRow f ∷ []) (each-keeps (checkRows f) (below (N f)) (λ i. tt)) tt)
 
 pub nine-keeps : {A : Type 0} (f : List ℕ) (a : A) → writes (notWhole f a) ≡ false
 nine-keeps f a = rows-keep (reading f) a (reading-keeps f)

@@ -15,7 +15,7 @@ pub fn refusal(number: u32, place: u32) -> u64
     number as u64 * 4294967296 + (place as u64)
 }
 
-// Refusals 1 to 8, then 9.
+// The file's refusals, then 9.
 pub fn refuse(file: &[u8]) -> u64
     ensures { λ r. ⌜ r ≡ word (λ n. n) (notWhole (now (file .entry)) 0) ⌝ }
 {

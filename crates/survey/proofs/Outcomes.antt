@@ -20,7 +20,7 @@ module _ (f p es : List ℕ) (s : Summary) (found : Surveyed f p es s) where
   abbrev all : List ℕ
   all = ends (credentials f)
 
-  -- an answer that has further rows after 1 to 8
+  -- an answer that has further rows after those of the file
   pub survey-refused : (s .number ≡ 0 → ⊥) → {B : Type 0} (more : List RefusalRow) (b : B) → first (reading f ++ more) b ≡ refused (s .number) (s .place)
   survey-refused h {B} more b =
       first-append {A = List ℕ} {B = B} (reading f) more all b ∙ go (endsRead f) (found .number) (found .place)

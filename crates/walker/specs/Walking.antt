@@ -14,7 +14,7 @@ use Rattle.walker.specs.declared.Walker.{Walker}
 use Rattle.walker.specs.declared.Entry as E
 use Rattle.walker.specs.declared.Entry.the-variants as N
 
--- refusals 1 to 8 of the bytes
+-- refusals 1 to 8 and 17 of the bytes
 abbrev pub opened : List ℕ → Refusal
 opened f = refusalOf {A = ℕ} (read f 0)
 
@@ -44,7 +44,7 @@ credentialOf w = foundAt (now (w .file)) (w .at) (w .number)
 abbrev pub refusalIn : Walker → Refusal
 refusalIn w = record { number = w .number; place = w .place }
 
--- an entry as an outcome: what stands at the place, or document 01's number and place
+-- an entry as an outcome: what stands at the place, or the documents' number and place
 abbrev pub saysEntry : E.Entry → Outcome Found
 saysEntry (N.Credential c) = done (Credential c)
 saysEntry N.End = done End

@@ -19,7 +19,7 @@ pub enum Entry {
     Refused { number: u32, place: u32 },
 }
 
-// A walker at the first credential of a file that passes 1 to 8, or a refused one.
+// A walker at the first credential of a file that passes 1 to 8 and 17, or a refused one.
 pub fn walk<'a>(file: &'a [u8]) -> Walker<'a>
     ensures { λ r. ⌜ r ≡ walkerOf (file .entry) ⌝ }
 {
@@ -79,7 +79,7 @@ pub fn entry_at(file: &[u8], at: usize) -> Entry
     }
 }
 
-// Refusals 1 to 8.
+// Refusals 1 to 8 and 17.
 fn open(file: &[u8]) -> file::Refusal
     ensures { λ r. ⌜ r ≡ opened (now (file .entry)) ⌝ }
 {
@@ -110,7 +110,7 @@ fn place_after(file: &[u8], at: usize, number: u32) -> usize
     }
 }
 
-// The credential at a place of a file that passes 1 to 8, by a walker there.
+// The credential at a place of a file that passes 1 to 8 and 17, by a walker there.
 fn nth(file: &[u8], at: usize) -> file::Found
     ensures { λ r. ⌜ r ≡ foundIn (now (file .entry)) at ⌝ }
 {

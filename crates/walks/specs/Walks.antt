@@ -17,7 +17,7 @@ stands End = false
 abbrev pub countedAs : Refusal → ℕ → Counted
 countedAs r n = record { number = r .number; place = r .place; credentials = n }
 
--- document 01's number and place where a file is refused, otherwise the number of its credentials
+-- the documents' number and place where a file is refused, otherwise the number of its credentials
 abbrev pub countOut : Outcome ℕ → Counted
 countOut (done n) = record { number = 0; place = 0; credentials = n }
 countOut (refused n p) = record { number = n; place = p; credentials = 0 }

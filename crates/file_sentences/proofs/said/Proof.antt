@@ -28,6 +28,9 @@ unused-requires c κs = search needs
 period-requires : tie.Need-period-requires
 period-requires c κs = search needs
 
+serial-requires : tie.Need-serial-requires
+serial-requires c κs = search needs
+
 returns : tie.Need-returns
 unfolding fileText
 returns c = rw (c .before .match .keys1) (c .short .ensures)
@@ -66,10 +69,14 @@ returns-9 c = rw (c .match .keys9) memberships-line
 
 returns-10 : tie.Need-returns-10
 unfolding fileText
-returns-10 c =
+returns-10 c = rw (c .before .match .keys10) (c .serial .ensures)
+
+returns-11 : tie.Need-returns-11
+unfolding fileText
+returns-11 c =
     let no = c .match .rest in
     let n = c .before .before .args .number in
-    rw (ne-eqb n 1 (no .0 .0 .0 .0 .0 .0 .0 .0 .1), ne-eqb n 2 (no .0 .0 .0 .0 .0 .0 .0 .1), ne-eqb n 3 (no .0 .0 .0 .0 .0 .0 .1), ne-eqb n 4 (no .0 .0 .0 .0 .0 .1), ne-eqb n 5 (no .0 .0 .0 .0 .1), ne-eqb n 6 (no .0 .0 .0 .1), ne-eqb n 7 (no .0 .0 .1), ne-eqb n 8 (no .0 .1), ne-eqb n 10 (no .1))
+    rw (ne-eqb n 1 (no .0 .0 .0 .0 .0 .0 .0 .0 .0 .1), ne-eqb n 2 (no .0 .0 .0 .0 .0 .0 .0 .0 .1), ne-eqb n 3 (no .0 .0 .0 .0 .0 .0 .0 .1), ne-eqb n 4 (no .0 .0 .0 .0 .0 .0 .1), ne-eqb n 5 (no .0 .0 .0 .0 .0 .1), ne-eqb n 6 (no .0 .0 .0 .0 .1), ne-eqb n 7 (no .0 .0 .0 .1), ne-eqb n 8 (no .0 .0 .1), ne-eqb n 10 (no .0 .1), ne-eqb n 17 (no .1))
     refused-line
 
 pub said-spec : {M : Type 1} → statement M
@@ -83,6 +90,7 @@ said-spec =
     range-requires
     unused-requires
     period-requires
+    serial-requires
     returns
     returns-2
     returns-3
@@ -92,4 +100,5 @@ said-spec =
     returns-7
     returns-8
     returns-9
-    returns-10)
+    returns-10
+    returns-11)

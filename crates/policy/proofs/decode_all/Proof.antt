@@ -1,5 +1,7 @@
--- `decode_all` meets its contract. The invariant: the refusal of all rows is that of the rows from credential i on, and the credentials below i are stored.
-use mathlib.Core.Path.{_≡_, sym, ap, _∙_}
+-- `decode_all` meets its contract. The invariant: the refusal of all rows is that of the rows from credential i on, the credentials below i are stored, and the
+-- greatest of their serials is carried.
+use mathlib.Core.Path.{_≡_, refl, sym, ap, _∙_}
+use mathlib.Core.Logic.{inl}
 use Prim.Native.Nat.{ℕ, _-_, _≤_, _<_}
 use native.Mathlib.Omega.{arith}
 use borrow.Author.Count.{below-more}
@@ -7,25 +9,26 @@ use Rattle.file.specs.Format.{N}
 use Rattle.file.specs.Reading.{credentialsRows}
 use Rattle.file.specs.Values.{firstRefusal}
 use Rattle.file.proofs.Rows.{rowsFrom, rows-start, rows-end, rows-stopped, rows-passed}
+use Rattle.serials.specs.Serials.{Greatest}
 use Rattle.policy.specs.Steps.{Worded}
 use Rattle.policy.proofs.decode_all.Statement.{statement}
 use Rattle.policy.proofs.decode_all.Tie as tie
 
 abbrev Inv-loop : tie.InvT-loop
-Inv-loop policy₀ file h n i₀ policy i =
-    (i ≤ N file) × ((firstRefusal (credentialsRows file) ≡ firstRefusal (rowsFrom file i)) × ((j : ℕ) → j < i → Worded file policy j))
+Inv-loop policy₀ file h n greatest₀ i₀ policy greatest i =
+    (i ≤ N file) × ((firstRefusal (credentialsRows file) ≡ firstRefusal (rowsFrom file i)) × ((j : ℕ) → j < i → Worded file policy j)) × Greatest file i greatest
 
 abbrev μ-loop : tie.MeasureT-loop
-μ-loop policy₀ file h n i₀ policy i = N file - i
+μ-loop policy₀ file h n greatest₀ i₀ policy greatest i = N file - i
 
 loop-holds : tie.Need-loop-holds Inv-loop μ-loop
-loop-holds c = (omega arith, (rows-start (c .before .args .file .now), λ j l. absurd (omega arith)))
+loop-holds c = (omega arith, (rows-start (c .before .args .file .now), λ j l. absurd (omega arith)), record { bound = λ j l. absurd (omega arith); reached = inl (refl, refl) })
 
 decode-one-requires : tie.Need-decode-one-requires Inv-loop μ-loop
-decode-one-requires c κs = (c .before .before .before .before .pre, omega arith)
+decode-one-requires c κs = ((c .before .before .before .before .pre, omega arith), c .before .before .loop .inv .2)
 
-cast-t9 : tie.Need-cast-t9 Inv-loop μ-loop
-cast-t9 c = omega arith
+cast-t10 : tie.Need-cast-t10 Inv-loop μ-loop
+cast-t10 c = omega arith
 
 returns : tie.Need-returns Inv-loop μ-loop
 returns c =
@@ -37,6 +40,9 @@ returns c =
       each = λ z. absurd (c .if1 .taken z);
     }
 
+greatest-with-requires : tie.Need-greatest-with-requires Inv-loop μ-loop
+greatest-with-requires c κs = (omega arith, c .before .before .before .before .loop .inv .2)
+
 add-i : tie.Need-add-i Inv-loop μ-loop
 add-i c = omega arith
 
@@ -45,14 +51,15 @@ loop-less c = omega arith
 
 loop-again : tie.Need-loop-again Inv-loop μ-loop
 loop-again c =
-    let f = c .before .before .before .before .before .before .args .file .now in
-    let l = c .before .before .before .before .loop in
-    let e = c .before .decode-one .ensures in (
+    let f = c .before .before .before .before .before .before .before .args .file .now in
+    let l = c .before .before .before .before .before .loop in
+    let e = c .before .before .decode-one .ensures in (
       omega arith,
       (
-        l .inv .1 .0 ∙ rows-passed f (l .i) (omega arith) (sym (e .number) ∙ c .if1 .left),
-        below-more _ _ (λ j m. e .kept j m (l .inv .1 .1 j m)) (e .stored (c .if1 .left)),
+        l .inv .1 .0 ∙ rows-passed f (l .i) (omega arith) (sym (e .number) ∙ c .before .if1 .left),
+        below-more _ _ (λ j m. e .kept j m (l .inv .1 .1 j m)) (e .stored (c .before .if1 .left)),
       ),
+      c .greatest-with .ensures,
     )
 
 returns-2 : tie.Need-returns-2 Inv-loop μ-loop
@@ -69,8 +76,9 @@ decode-all-spec =
     μ-loop
     loop-holds
     decode-one-requires
-    cast-t9
+    cast-t10
     returns
+    greatest-with-requires
     add-i
     loop-less
     loop-again

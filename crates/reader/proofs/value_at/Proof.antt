@@ -21,6 +21,9 @@ add-at c = search needs
 read-period-requires : tie.Need-read-period-requires
 read-period-requires c κs = search needs
 
+serial-at-requires : tie.Need-serial-at-requires
+serial-at-requires c κs = search needs
+
 add-role-of : tie.Need-add-role-of
 add-role-of c = search needs
 
@@ -65,7 +68,7 @@ shared-slice-read-body-of-5 c = search needs
 
 body-of-requires : tie.Need-body-of-requires
 body-of-requires c κs =
-    let s = c .before .before .before .before .before .before .before .before .before .before in
+    let s = c .before .before .before .before .before .before .before .before .before .before .before in
     let f = s .args .file .now in
     let i = s .args .i in
     let p = passed f i (s .pre .2) in
@@ -76,13 +79,13 @@ body-of-requires c κs =
 
 returns : tie.Need-returns
 returns c =
-    let s = c .before .before .before .before .before .before .before .before .before .before .before in
+    let s = c .before .before .before .before .before .before .before .before .before .before .before .before in
     let f = s .args .file .now in
     let i = s .args .i in
     let e : bodyIn f i ≡ some (c .body-of .result) =
     ap (λ (k : ℕ). bodyOf k (field f i 3) (field f i 4) (field f i 5) (field f i 6)) (kind-at f i) ∙ c .body-of .ensures
     in
-    sym (ap (foundOf f i) e ∙ simp (c .before .before .before .before .before .before .role-of .ensures, c .before .before .before .before .before .before .before .before .before .read-period .ensures))
+    sym (ap (foundOf f i) e ∙ simp (c .before .before .before .before .before .before .role-of .ensures, c .before .before .before .before .before .before .before .before .before .serial-at .ensures, c .before .before .before .before .before .before .before .before .before .before .read-period .ensures))
 
 pub value-at-spec : {M : Type 1} → statement M
 value-at-spec =
@@ -91,6 +94,7 @@ value-at-spec =
     mul-at
     add-at
     read-period-requires
+    serial-at-requires
     add-role-of
     shared-slice-read-role-of
     add-role-of-2
