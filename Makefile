@@ -14,10 +14,10 @@ MANDIR = $(PREFIX)/share/man
 
 version := $(shell sed -n 's/^.define RTT_VERSION "\(.*\)"/\1/p' include/rtt.h)
 library := target/staticlib/librtt.a
-programs := target/bin/members target/bin/credentials target/bin/proof target/bin/ends_list
-installed := rtt-members rtt-credentials rtt-proof rtt-ends
+programs := target/bin/members target/bin/credentials target/bin/proof target/bin/ends_list target/bin/carry
+installed := rtt-members rtt-credentials rtt-proof rtt-ends rtt-carry
 pages1 := $(installed:%=%.1)
-pages3 := rtt.3 rtt_complete.3 rtt_query.3 rtt_check.3 rtt_ends.3 rtt_intervals.3
+pages3 := rtt.3 rtt_complete.3 rtt_query.3 rtt_check.3 rtt_ends.3 rtt_intervals.3 rtt_forward.3 rtt_back.3
 pages5 := rtt.5
 sources := crates.txt $(shell find crates -name '*.rt' -o -name '*.antt')
 

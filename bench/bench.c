@@ -7,8 +7,9 @@
      bench FILE time QUESTION SECONDS CALL WHOSE     reply and least time of repeated calls, in microseconds
      bench FILE once QUESTION CALL WHOSE ...         each call once, in `measured`
 
-   QUESTION is ROLE SET MINUTE ABSENT; CALL is complete, query, absent (a query of the absent set), check, ends or
-   intervals (of every other span); WHOSE is rtt, plain or grouped. */
+   QUESTION is ROLE SET MINUTE ABSENT; CALL is complete, query, absent (a query of the absent set), check, ends,
+   intervals (of every other span), forward (of the file's old form) or back (of the file); WHOSE is rtt, plain or
+   grouped. */
 #include <stdio.h>
 #include <stdlib.h>
 #include <string.h>
@@ -23,8 +24,9 @@ struct lists {
     uint8_t a[BYTES], b[BYTES], c[BYTES], d[BYTES], wide[2 * BYTES];
 };
 
-static uint8_t file[6 + 20 * 256 + 1];
-static size_t length;
+/* The file and its old form, each with room for one byte more. */
+static uint8_t file[6 + 20 * 256 + 1], old[6 + 16 * 256 + 1];
+static size_t length, old_length;
 
 static struct question {
     uint32_t role, set, minute, absent;
@@ -37,6 +39,7 @@ typedef uint64_t checking(const uint8_t *, size_t, uint32_t, uint32_t, uint32_t,
                           size_t, const uint8_t *, size_t, const uint8_t *, size_t, uint64_t);
 typedef uint64_t listing_ends(const uint8_t *, size_t, uint8_t *, size_t);
 typedef uint64_t listing_intervals(const uint8_t *, size_t, uint64_t, uint8_t *, size_t);
+typedef uint64_t bringing(const uint8_t *, size_t, uint8_t *, size_t);
 
 static struct one {
     const char *name;
@@ -45,11 +48,29 @@ static struct one {
     checking *check;
     listing_ends *ends;
     listing_intervals *intervals;
+    bringing *forward, *back;
 } ones[] = {
-    {"rtt", rtt_complete, rtt_query, rtt_check, rtt_ends, rtt_intervals},
-    {"plain", plain_complete, plain_query, plain_check, plain_ends, plain_intervals},
-    {"grouped", grouped_complete, grouped_query, plain_check, plain_ends, plain_intervals},
+    {"rtt", rtt_complete, rtt_query, rtt_check, rtt_ends, rtt_intervals, rtt_forward, rtt_back},
+    {"plain", plain_complete, plain_query, plain_check, plain_ends, plain_intervals, plain_forward, plain_back},
+    {"grouped", grouped_complete, grouped_query, plain_check, plain_ends, plain_intervals, plain_forward, plain_back},
 };
+
+/* Makes the old form: the serials are left out, and each `to` is one higher. */
+static void make_old(void)
+{
+    size_t n = length < 6 ? 0 : (length - 6) / 20;
+    old_length = 6 + 16 * n;
+    memcpy(old, file, 6);
+    for (size_t i = 0; i < n; i++) {
+        uint8_t *period = old + 6 + 8 * n + 8 * i;
+        uint32_t to;
+        memcpy(old + 6 + 8 * i, file + 6 + 12 * i, 8);
+        memcpy(period, file + 6 + 12 * n + 8 * i, 8);
+        memcpy(&to, period + 4, 4);
+        to++;
+        memcpy(period + 4, &to, 4);
+    }
+}
 
 static uint64_t complete(const struct one *o, struct lists *l, size_t entries)
 {
@@ -83,6 +104,10 @@ __attribute__((noinline)) uint64_t measured(const struct one *o, int call)
         return o->ends(file, length, work.a, LIST);
     case 'i':
         return o->intervals(file, length, alternate, work.a, LIST);
+    case 'f':
+        return o->forward(old, old_length, work.wide, length);
+    case 'b':
+        return o->back(file, length, work.wide, old_length);
     default:
         return check(o, &work, asked.role, asked.set, asked.minute, steps);
     }
@@ -105,7 +130,7 @@ static const struct one *one_called(const char *name)
     exit(2);
 }
 
-/* First letters differ: complete, query, absent, ends, intervals; check is 'k'. */
+/* First letters differ: complete, query, absent, ends, intervals, forward, back; check is 'k'. */
 static int call_called(const char *name)
 {
     int call = strcmp(name, "check") ? name[0] : 'k';
@@ -203,6 +228,72 @@ static void agree_listing(void)
         }
 }
 
+/* One input, into lists of the result's length, of one byte less and one more, and of none. */
+static void agree_bringing(int back, const uint8_t *input, size_t input_length)
+{
+    size_t right = back ? old_length : length, lengths[] = {right, right - 1, right + 1, 0};
+    for (size_t k = 0; k < sizeof lengths / sizeof *lengths; k++) {
+        uint64_t reply[2];
+        for (int i = 0; i < 2; i++) {
+            bringing *bring = back ? ones[i].back : ones[i].forward;
+            memset(had[i].wide, 0x5A, sizeof had[i].wide);
+            reply[i] = bring(input, input_length, had[i].wide, lengths[k]);
+        }
+        same(reply[0] == reply[1], back ? "reply of going back" : "reply of going forward");
+        same(!memcmp(had[0].wide, had[1].wide, sizeof had[0].wide), back ? "list of going back" : "list of going forward");
+    }
+}
+
+/* The input with a few bytes changed. */
+static void agree_changed(int back, size_t at, uint32_t value, size_t bytes)
+{
+    static uint8_t changed[sizeof file];
+    memcpy(changed, back ? file : old, back ? length : old_length);
+    memcpy(changed + at, &value, bytes);
+    agree_bringing(back, changed, back ? length : old_length);
+}
+
+/* Kinds, numbers and unused bytes; serials moved, repeated and zero; periods with no minute, with one and up to the last;
+   in the first credential, the middle one and the last. */
+static void agree_changed_credentials(int back)
+{
+    size_t n = (old_length - 6) / 16, statement = back ? 12 : 8, places[] = {0, n / 2, n - 1};
+    for (size_t k = 0; n && k < sizeof places / sizeof *places; k++) {
+        uint32_t i = places[k], from;
+        size_t s = 6 + statement * i, p = 6 + statement * n + 8 * i;
+        uint8_t values[] = {0, 1, 6, 32};
+        for (size_t j = 0; j < 8 * sizeof values; j++)
+            agree_changed(back, s + j % 8, values[j / 8], 1);
+        uint32_t serials[] = {0, 1, i + 2, n + 1, UINT32_MAX};
+        for (size_t j = 0; back && j < sizeof serials / sizeof *serials; j++)
+            agree_changed(back, s + 8, serials[j], 4);
+        memcpy(&from, (back ? file : old) + p, 4);
+        uint32_t ends[] = {0, from - 1, from, from + 1, UINT32_MAX - 1, UINT32_MAX};
+        for (size_t j = 0; j < sizeof ends / sizeof *ends; j++)
+            agree_changed(back, p + 4, ends[j], 4);
+    }
+}
+
+/* The file and its old form, with wrong lengths, sizes and credentials, and there and back. */
+static void agree_forward_and_back(void)
+{
+    for (int back = 0; back < 2; back++) {
+        const uint8_t *input = back ? file : old;
+        size_t right = back ? length : old_length, lengths[] = {right, right - 1, right + 1, 6, 5, 0};
+        for (size_t k = 0; k < sizeof lengths / sizeof *lengths; k++)
+            agree_bringing(back, input, lengths[k]);
+        uint32_t sizes[] = {0, 1, 33, 256, 257};
+        for (size_t at = 0; at < 6; at += 2)
+            for (size_t k = 0; k < sizeof sizes / sizeof *sizes; k++)
+                agree_changed(back, at, sizes[k], 2);
+        agree_changed_credentials(back);
+    }
+    uint64_t there = rtt_forward(old, old_length, had[0].wide, length);
+    if (rtt_ok(there))
+        same(rtt_back(had[0].wide, length, had[1].wide, old_length) == there && !memcmp(had[1].wide, old, old_length),
+             "an old file brought forward and back");
+}
+
 /* The deepest membership, an absent one, and memberships of the table, while there is time. */
 static void agree(void)
 {
@@ -211,6 +302,7 @@ static void agree(void)
     uint64_t count = agree_completing(RTT_ENTRIES);
     table = had[0];
     agree_listing();
+    agree_forward_and_back();
     agree_querying(asked.role, asked.set, asked.minute);
     agree_querying(asked.role, asked.absent, asked.minute);
     for (size_t entries = 1; entries < RTT_ENTRIES && now(CLOCK_MONOTONIC) - start < enough; entries += 1 + entries / 2)
@@ -279,6 +371,7 @@ int main(int n, char **v)
         return 2;
     length = fread(file, 1, sizeof file, f);
     fclose(f);
+    make_old();
     const char *mode = v[2];
     if (!strcmp(mode, "ask")) {
         ask();

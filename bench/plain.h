@@ -27,6 +27,9 @@ uint64_t plain_check(const uint8_t *file, size_t length, uint32_t role, uint32_t
 uint64_t plain_ends(const uint8_t *file, size_t length, uint8_t *ends, size_t ends_length);
 uint64_t plain_intervals(const uint8_t *file, size_t length, uint64_t spans, uint8_t *bounds, size_t bounds_length);
 
+uint64_t plain_forward(const uint8_t *old, size_t old_length, uint8_t *file, size_t file_length);
+uint64_t plain_back(const uint8_t *file, size_t file_length, uint8_t *old, size_t old_length);
+
 /* Role, set and minute of the membership with the highest least level; 0 where the file is refused or has none. */
 int plain_deepest(const uint8_t *file, size_t length, uint32_t *role, uint32_t *set, uint32_t *minute);
 

@@ -18,8 +18,10 @@ import files
 HERE = os.path.dirname(os.path.abspath(__file__))
 DIR, MODE = sys.argv[1:3]
 PROGRAM = f'{DIR}/bench'
-CALLS = 'complete', 'query', 'absent', 'ends', 'intervals', 'check'
+CALLS = 'complete', 'query', 'absent', 'ends', 'intervals', 'forward', 'back', 'check'
+BRINGING = 'forward', 'back'
 SECOND = 1e6                # a call may take no longer, in microseconds
+BROUGHT = 100_000           # instructions that forward and back may take for 256 credentials
 MARGIN = 1.15               # of a limit over the ratio that was measured
 VALGRIND = shutil.which('valgrind')
 SWIPL = shutil.which('swipl')
@@ -104,7 +106,7 @@ def tabled(name, when):
 
 
 def yardsticks(call):
-    return ('grouped',) if call in ('check', 'ends', 'intervals') else ('plain', 'grouped')
+    return ('plain', 'grouped') if call in ('complete', 'query', 'absent') else ('grouped',)
 
 
 def calls_on(steps):
@@ -222,11 +224,23 @@ def tables(out):
             ('querying an absent set, hostile files, against the better', hostile, 'absent', None, 2),
             ('checking, all files', list(every.values()), 'check', None, 1.5),
             ('ends, all files', list(every.values()), 'ends', None, 2),
-            ('intervals, all files', list(every.values()), 'intervals', None, 2)):
+            ('intervals, all files', list(every.values()), 'intervals', None, 2),
+            ('forward, all files', list(every.values()), 'forward', None, 2),
+            ('back, all files', list(every.values()), 'back', None, 2)):
         had = [(ratio(r, call, of)[0], n) for n, r in every.items() if r in rs and ratio(r, call, of)[0] is not None]
         over = [f'`{n}` {short(x)}' for x, n in had if x > goal]
         body.append([what, f'{short(min(had)[0])} to {short(max(had)[0])}', goal,
                      'met' if not over else f'missed on {len(over)} of {len(had)}: ' + ', '.join(over)])
+    # Of a file with 256 credentials; a call that refuses brings nothing, and is named beside.
+    full = [(x, f'`{n}` {c} {number(x)}', r['reply'][f'{c} rtt'] == 256) for n, r in every.items() if r['reply']['forward rtt'] == 256
+            for c in BRINGING for x in [r['instructions'].get(f'{c} rtt')] if x]
+    if full:
+        had = [x for x, _, done in full if done]
+        over = [who for x, who, done in full if done and x > BROUGHT]
+        refused = [who for x, who, done in full if not done and x > BROUGHT]
+        body.append(['forward and back of 256 credentials, instructions', f'{number(min(had))} to {number(max(had))}', number(BROUGHT),
+                     ('met' if not over else f'missed on {len(over)} of {len(had)}: ' + ', '.join(over))
+                     + ('; refused, beside: ' + ', '.join(refused) if refused else '')])
     slowest = max(((r['time'][f'{c} rtt'], n, c) for n, r in every.items() for c in CALLS if r['time'].get(f'{c} rtt')))
     body.append(['longest call of the library', f'{time(slowest[0])} (`{slowest[1]}`, {slowest[2]})', '0.5 s',
                  'met' if slowest[0] < SECOND / 2 else 'missed'])
@@ -248,12 +262,14 @@ def tables(out):
         ['file', 'steps', 'library', 'plain', 'library / plain'],
         [[n, r['steps'], number(r['instructions'].get('check rtt')), number(r['instructions'].get('check grouped')),
           shown(ratio(r, 'check'))] for n, r in every.items() if r['steps']]))
-    part('Ends, and the intervals of every other span', 'Instructions of one call.')
-    text.append(rows(
-        ['file', 'ends', 'library', 'plain', 'library / plain', 'intervals', 'library', 'plain', 'library / plain'],
-        [[n, *[x for call in ('ends', 'intervals')
-               for x in (reply(r, call), *[number(r['instructions'].get(f'{call} {w}')) for w in ('rtt', 'grouped')], shown(ratio(r, call)))]]
-         for n, r in every.items()]))
+    for title, calls in (('Ends, and the intervals of every other span', ('ends', 'intervals')),
+                         ('Old files brought forward and back', BRINGING)):
+        part(title, 'Instructions of one call.')
+        text.append(rows(
+            ['file', *[x for call in calls for x in (call, 'library', 'plain', 'library / plain')]],
+            [[n, *[x for call in calls
+                   for x in (reply(r, call), *[number(r['instructions'].get(f'{call} {w}')) for w in ('rtt', 'grouped')], shown(ratio(r, call)))]]
+             for n, r in every.items()]))
     part('Checking by length of the proof', 'Proofs of memberships of `deep`, one call.')
     at = {int(k): v for k, v in out['lengths'].items()}
     body = []
@@ -297,10 +313,10 @@ def tables(out):
 
 # ---- the gate's part ----
 
-def ratios(name, asked, calls):
-    """Instructions of the library over those of the grouped yardstick."""
+def both(name, asked, calls):
+    """Instructions of the library and of the grouped yardstick, by call."""
     got = counted(name, asked, [(c, w) for c in calls for w in ('rtt', 'grouped')])
-    return {c: got[c, 'rtt'] / got[c, 'grouped'] for c in calls} if got else {}
+    return {c: (got[c, 'rtt'], got[c, 'grouped']) for c in calls} if got else {}
 
 
 def limits():
@@ -314,24 +330,31 @@ def limits():
 
 def quick():
     allowed = limits()
-    bad, compared, held = [], 0, 0
+    bad, compared, held, brought = [], 0, 0, 0
     for name in (*files.HONEST, *files.HOSTILE):
         print(f'bench: {name}', file=sys.stderr, flush=True)
         asked, _, steps = question(name)
         compared += int(run([PROGRAM, path(name), 'agree', *asked, 'grouped']))
+        replies = {}
         for call in calls_on(steps):
-            took = min(timed(name, asked, call, 'rtt', 0, None)[1] for _ in range(2))
+            replies[call], took = min(timed(name, asked, call, 'rtt', 0, None) for _ in range(2))
             if took > SECOND:
                 bad.append(f'{call} {name}: {time(took)}')
-        for call, x in ratios(name, asked, list(allowed.get(name, {}))).items():
+        for call, (ours, theirs) in both(name, asked, list(allowed.get(name, {}))).items():
             held += 1
-            if x > allowed[name][call]:
-                bad.append(f'{call} {name}: {x:.2f} times the yardstick, limit {allowed[name][call]:.2f}')
+            if ours / theirs > allowed[name][call]:
+                bad.append(f'{call} {name}: {ours / theirs:.2f} times the yardstick, limit {allowed[name][call]:.2f}')
+            if call in BRINGING and replies[call] == 256:
+                brought += 1
+                if ours > BROUGHT:
+                    bad.append(f'{call} {name}: {number(ours)} instructions, limit {number(BROUGHT)}')
     for line in bad:
         print(f'bench: {line}')
     if bad:
         sys.exit(1)
-    said = f'{held} ratios within their limits' if VALGRIND else 'no valgrind, instructions not counted'
+    said = 'no valgrind, instructions not counted'
+    if VALGRIND:
+        said = f'{held} ratios within their limits, 256 credentials brought forward or back {brought} times within {number(BROUGHT)} instructions'
     print(f'bench: {compared} comparisons with the yardstick, no call above a second, {said}')
 
 
@@ -343,7 +366,7 @@ def write_limits():
         asked, _, steps = question(name)
         before = allowed.get(name, {})
         calls = [c for c in calls_on(steps) if all(timed(name, asked, c, w, 0.05, 60)[1] < 4e3 for w in ('rtt', 'grouped'))]
-        now = {c: x * MARGIN for c, x in ratios(name, asked, calls).items()}
+        now = {c: ours / theirs * MARGIN for c, (ours, theirs) in both(name, asked, calls).items()}
         lines += [f'{name} {c} {min(x[c] for x in (before, now) if c in x):.2f}' for c in CALLS if c in before or c in now]
     with open(f'{HERE}/limits', 'w') as f:
         f.write('\n'.join(lines) + '\n')

@@ -102,6 +102,18 @@ static uint64_t intervals(const uint8_t *file, size_t length, uint64_t spans, si
     return rtt_intervals(file, length, spans, a.bytes, bytes);
 }
 
+static uint64_t forward(const uint8_t *old, size_t length, size_t bytes)
+{
+    mark();
+    return rtt_forward(old, length, a.bytes, bytes);
+}
+
+static uint64_t back(const uint8_t *file, size_t length, size_t bytes)
+{
+    mark();
+    return rtt_back(file, length, a.bytes, bytes);
+}
+
 /* K1's proof: {1} and {2} are in 0.0 by credentials 0 and 1, and so {1,2} is in 0.1 by credential 2. The last entry is no step. */
 static const uint8_t credential[] = {0, 0, 0, 0, 1, 0, 0, 0, 2, 0, 0, 0, 9, 9, 9, 9};
 static const uint8_t first[]      = {0, 0, 0, 0, 0, 0, 0, 0, 0, 0, 0, 0, 9, 9, 9, 9};
@@ -131,10 +143,12 @@ static void texts(void)
     EXPECT(strcmp(rtt_refusal_text(0), "no refusal") == 0);
     EXPECT(strcmp(rtt_refusal_text(13), "there is no proof") == 0);
     EXPECT(strcmp(rtt_refusal_text(17), "a credential's serial is zero or that of an earlier credential") == 0);
-    EXPECT(strcmp(rtt_refusal_text(18), "not the number of a refusal") == 0);
+    EXPECT(strcmp(rtt_refusal_text(18), "the list to write has another length than the resulting file") == 0);
+    EXPECT(strcmp(rtt_refusal_text(19), "a credential's serial is not its position plus one") == 0);
+    EXPECT(strcmp(rtt_refusal_text(20), "not the number of a refusal") == 0);
     EXPECT(strcmp(rtt_refusal_text(refusal(13, 0)), "not the number of a refusal") == 0);
     EXPECT(strcmp(rtt_refusal_text(UINT64_MAX), "not the number of a refusal") == 0);
-    for (uint64_t i = 0; i <= 18; i++)
+    for (uint64_t i = 0; i <= 20; i++)
         for (uint64_t k = 0; k < i; k++)
             EXPECT(strcmp(rtt_refusal_text(i), rtt_refusal_text(k)) != 0);
 }
@@ -145,7 +159,7 @@ static void names(void)
     EXPECT(RTT_CREDENTIAL_OUT_OF_RANGE == 5 && RTT_BYTE_NOT_ZERO == 6 && RTT_WRONG_PERIOD == 7 && RTT_TOO_MANY_ENDS == 8);
     EXPECT(RTT_WRONG_LISTS == 9 && RTT_TOO_MANY_MEMBERSHIPS == 10 && RTT_REQUEST_OUT_OF_RANGE == 11 && RTT_NOT_A_MINUTE == 12);
     EXPECT(RTT_NO_PROOF == 13 && RTT_WRONG_STEP_COUNT == 14 && RTT_WRONG_STEP == 15 && RTT_OTHER_MEMBERSHIP == 16);
-    EXPECT(RTT_WRONG_SERIAL == 17);
+    EXPECT(RTT_WRONG_SERIAL == 17 && RTT_WRONG_OUTPUT_LENGTH == 18 && RTT_SERIAL_OUT_OF_PLACE == 19);
     EXPECT(rtt_number(query(P, sizeof P, rtt_role(0, 1), 6, 19, L)) == RTT_NO_PROOF);
     switch (rtt_number(refusal(15, 2))) {
     case RTT_WRONG_STEP:
@@ -160,7 +174,7 @@ static void version(void)
     char text[32];
     snprintf(text, sizeof text, "%d.%d.%d", RTT_VERSION_NUMBER / 10000, RTT_VERSION_NUMBER / 100 % 100, RTT_VERSION_NUMBER % 100);
     EXPECT(strcmp(text, RTT_VERSION) == 0);
-    EXPECT(RTT_FILE_BYTES == 6 + 20 * 256 && RTT_ENTRIES == 1024 && RTT_ENDS_BYTES == 64 * 4 && RTT_BOUNDS_BYTES == 32 * 2 * 4);
+    EXPECT(RTT_FILE_BYTES == 6 + 20 * 256 && RTT_OLD_FILE_BYTES == 6 + 16 * 256 && RTT_ENTRIES == 1024 && RTT_ENDS_BYTES == 64 * 4 && RTT_BOUNDS_BYTES == 32 * 2 * 4);
 }
 
 static void entries(void)
@@ -342,10 +356,10 @@ static void empty(void)
     EXPECT(rtt_may_release(file, sizeof file, 0, 1, 0) == 0);
 }
 
-/* All five calls refuse the file so, whether their other arguments are wrong or those that P answers, and leave the lists as they were. */
+/* All calls that read a file refuse it so, whether their other arguments are wrong or those that P answers, and leave the lists as they were. */
 static void refused_by_all(int line, const uint8_t *file, size_t length, uint64_t reply)
 {
-    uint64_t got[8];
+    uint64_t got[10];
     int same = 1;
     got[0] = complete(file, length, L);
     same &= untouched(&a) && untouched(&b) && untouched(&c);
@@ -360,7 +374,11 @@ static void refused_by_all(int line, const uint8_t *file, size_t length, uint64_
     got[6] = query(file, length, rtt_role(0, 1), 6, 15, L);
     same &= untouched(&a) && untouched(&b) && untouched(&c) && untouched(&d);
     got[7] = check(file, length, rtt_role(0, 1), 6, 15, 3);
-    for (int i = 0; i < 8; i++)
+    got[8] = back(file, length, rtt_back_length(length));
+    same &= untouched(&a);
+    got[9] = back(file, length, 7);
+    same &= untouched(&a);
+    for (int i = 0; i < 10; i++)
         expect(line, got[i] == reply, "each call refuses the file");
     expect(line, same, "a refusal leaves the lists as they were");
     expect(line, rtt_may_release(file, length, rtt_role(0, 1), 6, 15) == 0, "a refused file releases nothing");
@@ -514,6 +532,159 @@ static void too_many_ends(void)
     }
 }
 
+/* The list has these bytes and no more. */
+static int is(const list *l, const uint8_t *bytes, size_t length)
+{
+    return around(l, length) && memcmp(l->bytes, bytes, length) == 0;
+}
+
+/* Set P as document 01 first had it: without serials, and each period ends before `to`. Its statements begin at bytes 6, 14 and 22, its periods at 30, 38
+   and 46. */
+static const uint8_t OLD[54] = {
+    0x03, 0x00, 0x02, 0x00, 0x03, 0x00,
+    0x00, 0x00, 0x00, 0x01, 0x00, 0x00, 0x00, 0x00,
+    0x00, 0x00, 0x00, 0x02, 0x00, 0x00, 0x00, 0x00,
+    0x05, 0x00, 0x01, 0x00, 0x00, 0x00, 0x00, 0x00,
+    0x0a, 0x00, 0x00, 0x00, 0x15, 0x00, 0x00, 0x00,
+    0x0f, 0x00, 0x00, 0x00, 0x1f, 0x00, 0x00, 0x00,
+    0x00, 0x00, 0x00, 0x00, 0x13, 0x00, 0x00, 0x00,
+};
+
+static void lengths(void)
+{
+    EXPECT(rtt_forward_length(6) == 6 && rtt_forward_length(22) == 26 && rtt_forward_length(sizeof OLD) == sizeof P);
+    EXPECT(rtt_forward_length(RTT_OLD_FILE_BYTES) == RTT_FILE_BYTES && rtt_back_length(RTT_FILE_BYTES) == RTT_OLD_FILE_BYTES);
+    EXPECT(rtt_back_length(6) == 6 && rtt_back_length(26) == 22 && rtt_back_length(sizeof P) == sizeof OLD);
+    EXPECT(rtt_forward_length(0) == 0 && rtt_forward_length(5) == 0 && rtt_back_length(0) == 0 && rtt_back_length(5) == 0);
+    size_t n = 0;
+    while (n < 6000 && rtt_forward_length(n) <= RTT_FILE_BYTES && rtt_back_length(n) <= RTT_OLD_FILE_BYTES)
+        n++;
+    EXPECT(n == 6000);
+    EXPECT(rtt_forward_length(SIZE_MAX) == RTT_FILE_BYTES && rtt_back_length(SIZE_MAX) == RTT_OLD_FILE_BYTES);
+}
+
+/* An old file is refused so, whatever list is lent, and the list is as it was. */
+static void old_refused(int line, const uint8_t *old, size_t length, uint64_t reply)
+{
+    static const size_t bytes[] = {0, 6, sizeof OLD, sizeof P, sizeof P + 1, RTT_FILE_BYTES};
+    for (size_t i = 0; i < sizeof bytes / sizeof *bytes; i++)
+        expect(line, forward(old, length, bytes[i]) == reply && untouched(&a), "going forward refuses the old file and writes nothing");
+    expect(line, forward(old, length, rtt_forward_length(length)) == reply && untouched(&a), "nor into a list of the right length");
+}
+
+/* OLD with one byte changed. */
+static void old_changed(int line, size_t place, uint8_t byte, uint64_t reply)
+{
+    uint8_t old[sizeof OLD];
+    memcpy(old, OLD, sizeof OLD);
+    old[place] = byte;
+    old_refused(line, old, sizeof old, reply);
+}
+
+static void going_forward(void)
+{
+    static const uint8_t empty[] = {1, 0, 1, 0, 0, 0};
+    EXPECT(forward(OLD, sizeof OLD, sizeof P) == 3 && is(&a, P, sizeof P));
+    EXPECT(forward(empty, 6, 6) == 0 && is(&a, empty, 6));
+    EXPECT(forward(empty, 6, 7) == refusal(18, 0) && untouched(&a));
+    EXPECT(rtt_forward(empty, 6, NULL, 0) == refusal(18, 0));
+    size_t n = 0;
+    while (n < 200 && (n == sizeof P || (forward(OLD, sizeof OLD, n) == refusal(18, 0) && untouched(&a))))
+        n++;
+    EXPECT(n == 200);
+    old_refused(__LINE__, NULL, 0, refusal(1, 0));
+    old_refused(__LINE__, OLD, 5, refusal(1, 0));
+    old_refused(__LINE__, OLD, 6, refusal(3, 0));
+    old_refused(__LINE__, OLD, sizeof OLD - 1, refusal(3, 0));
+    old_refused(__LINE__, P, sizeof P, refusal(3, 0));
+    old_changed(__LINE__, 0, 0, refusal(2, 0));
+    old_changed(__LINE__, 2, 33, refusal(2, 0));
+    old_changed(__LINE__, 5, 1, refusal(2, 0));
+    old_changed(__LINE__, 4, 2, refusal(3, 0));
+    old_changed(__LINE__, 14, 6, refusal(4, 1));
+    old_changed(__LINE__, 7, 3, refusal(5, 0));
+    old_changed(__LINE__, 24, 2, refusal(5, 2));
+    old_changed(__LINE__, 10, 1, refusal(6, 0));
+    old_changed(__LINE__, 29, 1, refusal(6, 2));
+    /* from = to has no minute, and so has to = 0. */
+    old_changed(__LINE__, 34, 10, refusal(7, 0));
+    old_changed(__LINE__, 42, 14, refusal(7, 1));
+    old_changed(__LINE__, 50, 0, refusal(7, 2));
+}
+
+/* 0.0 <- 0 in one old period, brought forward: the minutes from `from` up to the one before `to`. */
+static void old_period(int line, uint32_t from, uint32_t to)
+{
+    uint8_t old[22] = {1, 0, 1, 0, 1, 0};
+    for (int i = 0; i < 4; i++) {
+        old[14 + i] = (uint8_t)(from >> (8 * i));
+        old[18 + i] = (uint8_t)(to >> (8 * i));
+    }
+    if (from >= to) {
+        old_refused(line, old, sizeof old, refusal(7, 0));
+        return;
+    }
+    expect(line, forward(old, sizeof old, 26) == 1 && is(&a, in_period(from, to - 1), 26), "`to` is lowered by one");
+    expect(line, back(in_period(from, to - 1), 26, 22) == 1 && is(&a, old, sizeof old), "and raised again");
+}
+
+static void old_periods(void)
+{
+    static const uint32_t minutes[] = {0, 1, 2, 255, 256, 65535, 65536, 16777216, 2147483648u, 4294967294u, 4294967295u};
+    for (size_t i = 0; i < sizeof minutes / sizeof *minutes; i++)
+        for (size_t k = 0; k < sizeof minutes / sizeof *minutes; k++)
+            old_period(__LINE__, minutes[i], minutes[k]);
+}
+
+static void going_back(void)
+{
+    static const uint8_t empty[] = {1, 0, 1, 0, 0, 0};
+    EXPECT(back(P, sizeof P, sizeof OLD) == 3 && is(&a, OLD, sizeof OLD));
+    EXPECT(back(empty, 6, 6) == 0 && is(&a, empty, 6));
+    EXPECT(back(empty, 6, 5) == refusal(18, 0) && untouched(&a));
+    EXPECT(rtt_back(empty, 6, NULL, 0) == refusal(18, 0));
+    size_t n = 0;
+    while (n < 200 && (n == sizeof OLD || (back(P, sizeof P, n) == refusal(18, 0) && untouched(&a))))
+        n++;
+    EXPECT(n == 200);
+    EXPECT(back(OLD, sizeof OLD, sizeof OLD) == refusal(3, 0) && untouched(&a));
+    EXPECT(back(with_serials(3, 2, 1), sizeof P, sizeof OLD) == refusal(19, 0) && untouched(&a));
+    EXPECT(back(with_serials(1, 3, 2), sizeof P, sizeof OLD) == refusal(19, 1) && untouched(&a));
+    EXPECT(back(with_serials(1, 2, 4), sizeof P, sizeof OLD) == refusal(19, 2) && untouched(&a));
+    EXPECT(back(with_serials(257, 2, 3), sizeof P, sizeof OLD) == refusal(19, 0) && untouched(&a));
+    EXPECT(back(with_serials(1, 2, 16777219), sizeof P, sizeof OLD) == refusal(19, 2) && untouched(&a));
+    /* 18 before 19, 17 before both. */
+    EXPECT(back(with_serials(1, 3, 2), sizeof P, sizeof OLD + 1) == refusal(18, 0) && untouched(&a));
+    EXPECT(back(with_serials(3, 2, 3), sizeof P, sizeof OLD) == refusal(17, 2) && untouched(&a));
+}
+
+/* 256 credentials 0.0 <- 0 in periods of one minute, forward and back. With 32 minutes there are 64 ends; with 33 there are 66, and 8 is given before 18. */
+static void largest(void)
+{
+    static uint8_t old[RTT_OLD_FILE_BYTES], file[RTT_FILE_BYTES];
+    for (unsigned minutes = 32; minutes <= 33; minutes++) {
+        static const uint8_t sizes[] = {1, 0, 1, 0, 0, 1};
+        memset(old, 0, sizeof old);
+        memset(file, 0, sizeof file);
+        memcpy(old, sizes, sizeof sizes);
+        memcpy(file, sizes, sizeof sizes);
+        for (unsigned i = 0; i < 256; i++) {
+            file[6 + 12 * i + 8] = (uint8_t)(i + 1);
+            file[6 + 12 * i + 9] = i == 255;
+            file[6 + 12 * 256 + 8 * i] = file[6 + 12 * 256 + 8 * i + 4] = (uint8_t)(2 * (i % minutes));
+            old[6 + 8 * 256 + 8 * i] = (uint8_t)(2 * (i % minutes));
+            old[6 + 8 * 256 + 8 * i + 4] = (uint8_t)(2 * (i % minutes) + 1);
+        }
+        if (minutes == 32) {
+            EXPECT(forward(old, sizeof old, sizeof file) == 256 && is(&a, file, sizeof file));
+            EXPECT(back(file, sizeof file, sizeof old) == 256 && is(&a, old, sizeof old));
+        } else {
+            old_refused(__LINE__, old, sizeof old, refusal(8, 0));
+            refused_by_all(__LINE__, file, sizeof file, refusal(8, 0));
+        }
+    }
+}
+
 int main(void)
 {
     replies();
@@ -533,6 +704,11 @@ int main(void)
     serials();
     periods();
     too_many_ends();
+    lengths();
+    going_forward();
+    old_periods();
+    going_back();
+    largest();
     printf("%u expectations, %u failed\n", expected, failed);
     return failed != 0;
 }

@@ -1,9 +1,10 @@
 /* Measures the stack that each call takes with lists of 1,024 entries.
 
-   Arguments: the bytes of stack that include/rtt.h gives for completing, querying, checking, the ends and the intervals;
-   then for each case FILE ROLE SET MINUTE and the refusal numbers that completing and querying answer, 0 where they refuse
-   nothing. Where querying hands out a proof, it is checked. The intervals are those of all spans, and of a number with a
-   bit beyond them.
+   Arguments: the bytes of stack that include/rtt.h gives for completing, querying, checking, the ends, the intervals,
+   going back and going forward; then for each case FILE ROLE SET MINUTE and the refusal numbers that completing and
+   querying answer, 0 where they refuse nothing. Where querying hands out a proof, it is checked. The intervals are
+   those of all spans, and of a number with a bit beyond them. Each file is brought back, into a list of another length
+   and into one of the right length, and where its serials allow that, forward again, likewise.
 
    Each call runs on a stack of its own that was filled with a pattern. Prints the most bytes that each call wrote there,
    and what the header gives. Fails where that is less, where it is more than RTT_STACK, and where another number is
@@ -17,9 +18,9 @@
 #include "rtt.h"
 
 enum { ROOM = 1 << 20, PATTERN = 0xa5 };
-enum { COMPLETE, QUERY, CHECK, ENDS, INTERVALS, CALLS };
+enum { COMPLETE, QUERY, CHECK, ENDS, INTERVALS, BACK, FORWARD, CALLS };
 
-static const char *const names[CALLS] = {"complete", "query", "check", "ends", "intervals"};
+static const char *const names[CALLS] = {"complete", "query", "check", "ends", "intervals", "back", "forward"};
 static size_t most[CALLS];
 
 static uint8_t room[ROOM] __attribute__((aligned(64)));
@@ -29,7 +30,8 @@ static uint8_t file[RTT_FILE_BYTES + 1];
 static size_t length;
 static uint32_t role, set, minute, steps;
 static uint8_t a[4 * RTT_ENTRIES], b[4 * RTT_ENTRIES], c[4 * RTT_ENTRIES], d[4 * RTT_ENTRIES], s[8 * RTT_ENTRIES];
-static uint8_t list[256];
+static uint8_t list[256], old[RTT_OLD_FILE_BYTES], again[RTT_FILE_BYTES];
+static size_t old_length, lent;
 static uint64_t spans, reply;
 
 static void nothing(void) {}
@@ -57,6 +59,16 @@ static void ends(void)
 static void intervals(void)
 {
     reply = rtt_intervals(file, length, spans, list, sizeof list);
+}
+
+static void back(void)
+{
+    reply = rtt_back(file, length, old, lent);
+}
+
+static void forward(void)
+{
+    reply = rtt_forward(old, old_length, again, lent);
 }
 
 static size_t used_by(void (*call)(void))
@@ -113,13 +125,25 @@ static int measure_case(char **argument)
     bad |= measure(INTERVALS, intervals, 0);
     spans = beyond;
     bad |= measure(INTERVALS, intervals, 11);
-    return bad;
+    lent = 0;
+    bad |= measure(BACK, back, 18);
+    lent = old_length = rtt_back_length(length);
+    int in_place = 1;
+    for (size_t i = 0; i < (length - 6) / 20; i++)
+        in_place &= rtt_entry32(file + 14 + 12 * i, 0) == i + 1;
+    bad |= measure(BACK, back, in_place ? 0 : 19);
+    if (!in_place)
+        return bad;
+    bad |= measure(FORWARD, forward, 18);
+    lent = length;
+    bad |= measure(FORWARD, forward, 0);
+    return bad | (memcmp(again, file, length) != 0);
 }
 
 int main(int count, char **argument)
 {
-    int bad = count < 12 || (count - 6) % 6 != 0;
-    for (int i = 6; i + 5 < count; i += 6)
+    int bad = count < 7 + CALLS || (count - 1 - CALLS) % 6 != 0;
+    for (int i = 1 + CALLS; i + 5 < count; i += 6)
         bad |= measure_case(argument + i);
     if (bad)
         return 1;

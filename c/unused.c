@@ -10,6 +10,8 @@ void drop(const uint8_t *in, uint8_t *out, size_t n, uint64_t reply)
     rtt_check(in, n, 0, 0, 0, in, n, in, n, in, n, in, n, 0);
     rtt_ends(in, n, out, n);
     rtt_intervals(in, n, 0, out, n);
+    rtt_forward(in, n, out, n);
+    rtt_back(in, n, out, n);
     rtt_ok(reply);
     rtt_number(reply);
     rtt_place(reply);

@@ -3,7 +3,7 @@
 
 use std::path::{Path, PathBuf};
 
-const FUNCTIONS: [&str; 5] = ["rtt_complete", "rtt_query", "rtt_check", "rtt_ends", "rtt_intervals"];
+const FUNCTIONS: [&str; 7] = ["rtt_complete", "rtt_query", "rtt_check", "rtt_ends", "rtt_intervals", "rtt_forward", "rtt_back"];
 
 fn main() {
     let named = std::env::var("RTT_LIBRARY").map(PathBuf::from);

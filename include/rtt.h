@@ -1,17 +1,19 @@
 /* Who may release this sheet, and when: RT^T_+ credentials with periods.
 
-   Five calls. Each takes the bytes of a credentials file (rtt(5)) and lists that the caller lends, and replies with one
-   64-bit number. What a call replies and every byte that it leaves are proved, for every input that keeps to "What the
-   caller owes" below, against the definitions that the contracts in crates/rtt cite. The inline functions after the
-   calls are plain C, and tested; rtt_may_release, the last of them, is all that a release needs.
+   Seven calls. Each takes the bytes of a credentials file (rtt(5)), rtt_forward those of an old one, and lists that the
+   caller lends, and replies with one 64-bit number. What a call replies and every byte that it leaves are proved, for
+   every input that keeps to "What the caller owes" below, against the definitions that the contracts in crates/rtt
+   cite. The inline functions after the calls are plain C, and tested; rtt_may_release, the last of them, is all that a
+   release needs.
 
    Lists
 
    A list is lent as bytes, lowest byte first: 4 bytes an entry, 8 in `spans`. rtt_entry32 and rtt_entry64 read entries.
-   Every length counts bytes. All lists of one rtt_complete, rtt_query or rtt_check have the same number L of entries,
-   1 to 1,024: 4 * L bytes, and 8 * L for `spans`. The list of rtt_ends and that of rtt_intervals have 256 bytes, no
-   more and no less. A role A.r is the number A * 32 + r, which rtt_role makes; a set of entities has bit e for entity e;
-   minutes are 0 to 4,294,967,294, and rtt(5) recommends Unix time / 60.
+   Every length counts bytes. All lists of one rtt_complete, rtt_query or rtt_check have the same number L of entries, 1
+   to 1,024: 4 * L bytes, and 8 * L for `spans`. The list of rtt_ends and that of rtt_intervals have 256 bytes, no more
+   and no less; that of rtt_forward and that of rtt_back are as long as the file that is written. A role A.r is the
+   number A * 32 + r, which rtt_role makes; a set of entities has bit e for entity e; minutes are 0 to 4,294,967,294,
+   and rtt(5) recommends Unix time / 60.
 
    Signers
 
@@ -43,6 +45,18 @@
    i + 1. So n ends make n - 1 spans, and no ends make none. The last end can be 4,294,967,295, which is no minute.
    rtt_ends writes the ends, rtt_intervals turns spans into minutes.
 
+   Old files
+
+   An old file is one of version 1 of this interface: 6 + 16 * N bytes, statements of 8 bytes without a serial, and
+   periods that cover minute m when from <= m and m < to. rtt_forward writes the file that it becomes, rtt_back the old
+   file that a file becomes: going forward, the serial is the credential's position plus one, and `to` is lowered by
+   one; going back undoes both. Both files have the same memberships at the same minutes and the same proofs. All other
+   calls read files, and refuse an old one with 3 unless N is 0.
+
+   Files of version 2, without serials but with `to` covered, look like old files and are not. rtt_forward takes the last
+   minute of each of their periods away. It refuses such a file only where a period has from = to (7) or where the from
+   and to values are over 64 (8), and cannot tell the others apart.
+
    Replies
 
    A reply below 2^32 is a success, and rtt_ok(reply) is 1. Any other is a refusal, and rtt_ok(reply) is 0;
@@ -65,14 +79,20 @@
      number  condition                                             place       given by
         1    the file has under 6 bytes                            0           all
         2    E or R outside 1 to 32, or N above 256                0           all
-        3    the file's length is not 6 + 20 * N                   0           all
+        3    the file's length is not 6 + 20 * N                   0           all but forward
+        3    the old file's length is not 6 + 16 * N               0           forward
         4    a credential's kind is above 5                        credential  all
         5    its issuer or a used entity is not below E, or        credential  all
              its name or a used name is not below R
         6    an unused byte or byte 7 is not zero                  credential  all
-        7    from is above to, or to is 4,294,967,295              credential  all
-       17    its serial is zero or that of an earlier credential   credential  all
+        7    from is above to, or to is 4,294,967,295              credential  all but forward
+        7    from is not below to, in an old file                  credential  forward
+       17    its serial is zero or that of an earlier credential   credential  all but forward
         8    the periods have over 64 ends                         0           all
+       18    the list to write has another length than the         0           forward, back
+             resulting file
+       19    a serial is not its position plus one (the first      credential  back
+             such credential)
         9    a list is not whole entries, the lists are not of     0           complete, query, check
              one length, or L is outside 1 to 1,024
         9    the list has not 256 bytes                            0           ends, intervals
@@ -94,10 +114,11 @@
 
    - Each pointer is good for its length: to read, and to write where it is not const. Nobody else writes to these bytes
      during the call.
-   - A list that the call writes overlaps no other list and not the file. Lists that are only read may overlap.
+   - A list that the call writes overlaps nothing else that the call is lent: no file is brought forward or back in
+     place. What is only read may overlap.
    - Threads may call at the same time. They may share the file and lists that all of them only read; a list that a call
      writes is used by no other call.
-   - A pointer may be NULL if its length is 0. An empty file is refused with 1, empty lists with 9.
+   - A pointer may be NULL if its length is 0. An empty file is refused with 1, empty lists with 9 or 18.
    - No alignment is asked for.
    - Stack: see RTT_STACK. The calls use no heap, no files and no shared state.
    - x86-64 Linux, linked with librtt.a (-lrtt), which needs memcpy and memset and nothing else.  */
@@ -113,8 +134,8 @@ extern "C" {
 
 /* The version of this interface; the pkg-config file and the manual pages take it from here. The number is
    major * 10,000 + minor * 100 + patch. */
-#define RTT_VERSION "3.0.0"
-#define RTT_VERSION_NUMBER 30000
+#define RTT_VERSION "3.1.0"
+#define RTT_VERSION_NUMBER 30100
 
 /* Bytes of stack that are enough for any call, beside what the caller itself uses. Measured, no call takes more than
 
@@ -123,12 +144,17 @@ extern "C" {
      rtt_check      30,000 bytes
      rtt_ends        5,000 bytes
      rtt_intervals   5,000 bytes
+     rtt_forward    15,000 bytes
+     rtt_back        5,000 bytes
 
    which is rounded up to the next thousand. */
 #define RTT_STACK 81920
 
 /* The bytes of the longest file. A longer one is refused, also where only RTT_FILE_BYTES + 1 bytes of it were read. */
 #define RTT_FILE_BYTES 5126
+
+/* The bytes of the longest old file; likewise. */
+#define RTT_OLD_FILE_BYTES 4102
 
 /* The most entries of a list. */
 #define RTT_ENTRIES 1024
@@ -162,7 +188,9 @@ enum rtt_refusal {
     RTT_WRONG_STEP_COUNT = 14,
     RTT_WRONG_STEP = 15,
     RTT_OTHER_MEMBERSHIP = 16,
-    RTT_WRONG_SERIAL = 17
+    RTT_WRONG_SERIAL = 17,
+    RTT_WRONG_OUTPUT_LENGTH = 18,
+    RTT_SERIAL_OUT_OF_PLACE = 19
 };
 
 /* Completes the table of the file: every membership that is valid at one minute or more, with all spans in which it is.
@@ -241,6 +269,42 @@ uint64_t rtt_intervals(const uint8_t *file, size_t file_length,
                        uint64_t spans,
                        uint8_t *bounds, size_t bounds_length);
 
+/* Brings an old file forward: writes the file that has position plus one as serial and each `to` lowered by one.
+
+   old    the bytes of an old file, read
+   file   rtt_forward_length(old_length) bytes, written
+
+   Returns the count of credentials, which may be 0. The written file passes 1 to 8 and 17. Refuses with 1 to 8 as they
+   are for an old file, and 18.  */
+RTT_MUST_USE
+uint64_t rtt_forward(const uint8_t *old, size_t old_length,
+                     uint8_t *file, size_t file_length);
+
+/* Brings a file back: writes the old file without serials and with each `to` raised by one. Of the result of
+   rtt_forward it gives the old file's own bytes.
+
+   file   the bytes of a credentials file, read
+   old    rtt_back_length(file_length) bytes, written
+
+   Returns the count of credentials, which may be 0. The old file is one that rtt_forward accepts. Refuses with 1 to 8
+   and 17, 18 and 19.  */
+RTT_MUST_USE
+uint64_t rtt_back(const uint8_t *file, size_t file_length,
+                  uint8_t *old, size_t old_length);
+
+/* The bytes of the list that rtt_forward and rtt_back write, by the length of what they read; at most RTT_FILE_BYTES and
+   RTT_OLD_FILE_BYTES. With a list of this length 18 is never given: where the length that is read fits no file, the call
+   refuses with 1 to 3. */
+static inline size_t rtt_forward_length(size_t old_length)
+{
+    return old_length < 6 ? 0 : old_length > RTT_OLD_FILE_BYTES ? RTT_FILE_BYTES : 6 + (old_length - 6) / 16 * 20;
+}
+
+static inline size_t rtt_back_length(size_t file_length)
+{
+    return file_length < 6 ? 0 : file_length > RTT_FILE_BYTES ? RTT_OLD_FILE_BYTES : 6 + (file_length - 6) / 20 * 16;
+}
+
 /* A reply taken apart. rtt_ok is 1 for a success and 0 for a refusal. rtt_number and rtt_place are those of a refusal,
    and 0 for a success. rtt_steps and rtt_level are for the reply of rtt_query alone: those of its proof, and 0 for a
    refusal. */
@@ -250,7 +314,7 @@ RTT_MUST_USE static inline uint32_t rtt_place(uint64_t reply) { return rtt_ok(re
 RTT_MUST_USE static inline uint32_t rtt_steps(uint64_t reply) { return rtt_ok(reply) ? (uint32_t)reply & 65535 : 0; }
 RTT_MUST_USE static inline uint32_t rtt_level(uint64_t reply) { return rtt_ok(reply) ? (uint32_t)reply >> 16 : 0; }
 
-/* A refusal's number, which is rtt_number(reply), in words: a constant string. 0 is "no refusal"; any number above 17,
+/* A refusal's number, which is rtt_number(reply), in words: a constant string. 0 is "no refusal"; any number above 19,
    such as the whole reply of a refusal, is "not the number of a refusal". */
 static inline const char *rtt_refusal_text(uint64_t number)
 {
@@ -262,7 +326,7 @@ static inline const char *rtt_refusal_text(uint64_t number)
     case RTT_UNKNOWN_KIND: return "a credential's kind is above 5";
     case RTT_CREDENTIAL_OUT_OF_RANGE: return "a credential has an entity or a role name that is out of range";
     case RTT_BYTE_NOT_ZERO: return "a credential's unused byte is not zero";
-    case RTT_WRONG_PERIOD: return "a credential's period ends before it begins or after the last minute";
+    case RTT_WRONG_PERIOD: return "a credential's period has no minute or ends after the last one";
     case RTT_TOO_MANY_ENDS: return "the periods have over 64 ends";
     case RTT_WRONG_LISTS: return "a lent list has a wrong length";
     case RTT_TOO_MANY_MEMBERSHIPS: return "there are more memberships than the lists have entries";
@@ -273,6 +337,8 @@ static inline const char *rtt_refusal_text(uint64_t number)
     case RTT_WRONG_STEP: return "a step breaks the rules for a proof step";
     case RTT_OTHER_MEMBERSHIP: return "the last step is not the queried membership";
     case RTT_WRONG_SERIAL: return "a credential's serial is zero or that of an earlier credential";
+    case RTT_WRONG_OUTPUT_LENGTH: return "the list to write has another length than the resulting file";
+    case RTT_SERIAL_OUT_OF_PLACE: return "a credential's serial is not its position plus one";
     default: return "not the number of a refusal";
     }
 }

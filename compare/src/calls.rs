@@ -2,7 +2,7 @@
 
 use crate::reference::known::{steps, After, Known, Question};
 use crate::reference::meaning::Members;
-use crate::reference::{querying, Refusal, Rules};
+use crate::reference::{carrying, querying, Refusal, Rules};
 
 /// A lent slice: pointer and length in bytes.
 #[derive(Clone, Copy)]
@@ -44,10 +44,12 @@ pub enum Call {
     Check,
     Ends,
     Intervals,
+    Forward,
+    Back,
 }
 
 impl Call {
-    pub const ALL: [Call; 5] = [Call::Complete, Call::Query, Call::Check, Call::Ends, Call::Intervals];
+    pub const ALL: [Call; 7] = [Call::Complete, Call::Query, Call::Check, Call::Ends, Call::Intervals, Call::Forward, Call::Back];
 
     pub fn name(self) -> &'static str {
         match self {
@@ -56,6 +58,8 @@ impl Call {
             Call::Check => "rtt_check",
             Call::Ends => "rtt_ends",
             Call::Intervals => "rtt_intervals",
+            Call::Forward => "rtt_forward",
+            Call::Back => "rtt_back",
         }
     }
 }
@@ -67,6 +71,8 @@ pub trait Calls {
     fn check(&self, file: Slice, q: Question, lists: [Slice; 4], count: u64) -> u64;
     fn ends(&self, file: Slice, list: Slice) -> u64;
     fn intervals(&self, file: Slice, spans: u64, list: Slice) -> u64;
+    fn forward(&self, old: Slice, list: Slice) -> u64;
+    fn back(&self, file: Slice, list: Slice) -> u64;
 }
 
 /// The functions of librtt.a; those that the archive lacks must not be called.
@@ -118,6 +124,8 @@ mod c {
         ) -> u64;
         pub fn rtt_ends(file: *const u8, file_length: usize, ends: *mut u8, ends_length: usize) -> u64;
         pub fn rtt_intervals(file: *const u8, file_length: usize, spans: u64, bounds: *mut u8, bounds_length: usize) -> u64;
+        pub fn rtt_forward(old: *const u8, old_length: usize, file: *mut u8, file_length: usize) -> u64;
+        pub fn rtt_back(file: *const u8, file_length: usize, old: *mut u8, old_length: usize) -> u64;
     }
 }
 
@@ -130,6 +138,8 @@ impl Calls for Library {
             Call::Check => cfg!(rtt_check),
             Call::Ends => cfg!(rtt_ends),
             Call::Intervals => cfg!(rtt_intervals),
+            Call::Forward => cfg!(rtt_forward),
+            Call::Back => cfg!(rtt_back),
         }
     }
 
@@ -176,6 +186,22 @@ impl Calls for Library {
         // SAFETY: as for completing.
         return unsafe { c::rtt_intervals(f.start, f.length, spans, list.start, list.length) };
         #[cfg(not(rtt_intervals))]
+        unreachable!("not in the archive")
+    }
+
+    fn forward(&self, old: Slice, list: Slice) -> u64 {
+        #[cfg(rtt_forward)]
+        // SAFETY: as for completing.
+        return unsafe { c::rtt_forward(old.start, old.length, list.start, list.length) };
+        #[cfg(not(rtt_forward))]
+        unreachable!("not in the archive")
+    }
+
+    fn back(&self, f: Slice, list: Slice) -> u64 {
+        #[cfg(rtt_back)]
+        // SAFETY: as for completing.
+        return unsafe { c::rtt_back(f.start, f.length, list.start, list.length) };
+        #[cfg(not(rtt_back))]
         unreachable!("not in the archive")
     }
 }
@@ -233,6 +259,14 @@ impl Calls for Second {
 
     fn intervals(&self, file: Slice, spans: u64, list: Slice) -> u64 {
         written(Known::new(self.rules, &file.all()).intervals(spans, list.length), list)
+    }
+
+    fn forward(&self, old: Slice, list: Slice) -> u64 {
+        written(carrying::forward(&self.rules, &old.all(), list.length), list)
+    }
+
+    fn back(&self, file: Slice, list: Slice) -> u64 {
+        written(carrying::back(&self.rules, &file.all(), list.length), list)
     }
 }
 

@@ -1,14 +1,16 @@
 //! Document 01's cases, with the results that it states, as requests One and Two of document 02 change them: a serial is position
-//! plus one.
+//! plus one. And the cases as document 01 first has them, brought forward by request Three.
 
 use crate::calls::Call;
+use crate::carried::{carried_old, opened};
 use crate::explore::{completed, handed_out, queried};
 use crate::files::{Draft, Period};
-use crate::input::{Ends, Intervals};
+use crate::input::{Ends, Forward, Intervals};
 use crate::judge::{Compared, Comparison, Failure};
 use crate::random::Random;
 use crate::reference::ends::{listed, BYTES};
 use crate::reference::known::{Known, Question};
+use crate::reference::old::OLD;
 use crate::reference::reading::word;
 use crate::reference::{Refusal, RIGHT};
 
@@ -16,9 +18,20 @@ use crate::reference::{Refusal, RIGHT};
 const P: &str =
     "030002000300 0000000100000000 01000000 0000000200000000 02000000 0500010000000000 03000000 0A00000014000000 0F0000001E000000 0000000012000000";
 
-fn set_p() -> Vec<u8> {
-    let digits: String = P.split(' ').collect();
+/// The bytes of set P as document 01 prints them: 54.
+const OLD_P: &str = "030002000300 0000000100000000 0000000200000000 0500010000000000 0A00000014000000 0F0000001E000000 0000000012000000";
+
+/// The same brought forward: position plus one as serial, and 19, 29 and 17 as `to`.
+const OLD_P_FORWARD: &str =
+    "030002000300 0000000100000000 01000000 0000000200000000 02000000 0500010000000000 03000000 0A00000013000000 0F0000001D000000 0000000011000000";
+
+fn bytes(text: &str) -> Vec<u8> {
+    let digits: String = text.split(' ').collect();
     (0..digits.len()).step_by(2).map(|at| u8::from_str_radix(&digits[at..at + 2], 16).unwrap()).collect()
+}
+
+fn set_p() -> Vec<u8> {
+    bytes(P)
 }
 
 /// Set P with ⊙ in place of ⊗.
@@ -99,7 +112,7 @@ pub fn run(c: &mut Comparison, random: &mut Random, count: usize) -> Compared<()
             ("K5", set_p_union(), 2, 10, Some((2, 2))),
             ("K6", set_p(), 2, 10, None),
         ] {
-            let known = c.known(&file);
+            let known = opened(c, random, &file)?;
             let question = Question { role: 1, set, minute };
             let given = c.query(&known, queried(&file, question, 8, random.next()))?;
             expect(given.as_ref().map(|proof| (proof.level, proof.steps.len())) == proof, name)?;
@@ -108,6 +121,35 @@ pub fn run(c: &mut Comparison, random: &mut Random, count: usize) -> Compared<()
             }
         }
         ends_of_cases(c, random)?;
+        old_cases(c, random)?;
+    }
+    Ok(())
+}
+
+/// Set P's bytes before and after the way forward; the tables and the ends that document 01 first states of P, K8 and K11; K1 to K4 of P.
+fn old_cases(c: &mut Comparison, random: &Random) -> Compared<()> {
+    let random = &mut random.clone();
+    let new_p = bytes(OLD_P_FORWARD);
+    expect(c.forward(Forward { file: &bytes(OLD_P), length: 66, fill: random.next() })? == Some(new_p.clone()), "P, forward")?;
+    let mut old_k8 = Draft::new(3, 1);
+    old_k8.include(0, 32, (0, 10));
+    old_k8.fact(32, 2, (0, 5));
+    old_k8.fact(32, 2, (5, 10));
+    for (name, old, rows, ends) in [
+        ("P, old", bytes(OLD_P), vec![(0, 2, 14), (0, 4, 28), (1, 6, 4)], &[0, 10, 15, 18, 20, 30][..]),
+        ("K8, old", old_k8.without_serials(), vec![(0, 4, 3), (32, 4, 3)], &[0, 5, 10]),
+        ("K11, old", Draft::new(1, 1).without_serials(), vec![], &[]),
+    ] {
+        let known = Known::new(OLD, &old);
+        expect(known.ends(BYTES) == Ok((ends.len() as u64, listed(ends.iter().copied()))), name)?;
+        let table = known.table().into_iter().flatten().map(|(&(role, set), &spans)| (role, set, spans));
+        expect(table.collect::<Rows>() == rows, name)?;
+        carried_old(c, random, &old)?;
+    }
+    let known = opened(c, random, &new_p)?;
+    for (name, minute, holds) in [("K1, old", 15, true), ("K2, old", 17, true), ("K3, old", 18, false), ("K4, old", 14, false)] {
+        let question = Question { role: 1, set: 6, minute };
+        expect(c.query(&known, queried(&new_p, question, 8, random.next()))?.is_some() == holds, name)?;
     }
     Ok(())
 }
@@ -139,7 +181,7 @@ fn ends_of_cases(c: &mut Comparison, random: &Random) -> Compared<()> {
 
 /// The rows that completing writes; none without the call.
 fn rows_of(c: &mut Comparison, random: &mut Random, file: &[u8]) -> Compared<Option<Rows>> {
-    let known = c.known(file);
+    let known = opened(c, random, file)?;
     if !c.has(Call::Complete) {
         return Ok(None);
     }

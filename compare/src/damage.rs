@@ -77,7 +77,17 @@ pub fn all() -> Vec<Fault> {
 
 /// Makes a fault in a file that had `count` credentials.
 pub fn make(fault: Fault, bytes: &mut Vec<u8>, count: usize, place: usize) {
-    let (statement, period) = (6 + 12 * place, 6 + 12 * count + 8 * place);
+    make_in(fault, bytes, 12, count, place)
+}
+
+/// The same in an old file, which has no serials.
+pub fn make_old(fault: Fault, bytes: &mut Vec<u8>, count: usize, place: usize) {
+    make_in(fault, bytes, 8, count, place)
+}
+
+/// The same in a file whose statements have so many bytes.
+fn make_in(fault: Fault, bytes: &mut Vec<u8>, width: usize, count: usize, place: usize) {
+    let (statement, period) = (6 + width * place, 6 + width * count + 8 * place);
     let size = |bytes: &[u8], at: usize| u16::from_le_bytes([bytes[2 * at], bytes[2 * at + 1]]);
     let has = |end: usize| place < count && end <= bytes.len();
     match fault {
@@ -94,9 +104,9 @@ pub fn make(fault: Fault, bytes: &mut Vec<u8>, count: usize, place: usize) {
             };
             bytes[2 * at..2 * at + 2].copy_from_slice(&new.to_le_bytes());
         }
-        Fault::Kind(kind) if has(statement + 12) => bytes[statement] = kind,
-        Fault::Limit(byte) if has(statement + 12) => bytes[statement + byte] = size(bytes, [0, 1, 0, 1, 0, 1][byte - 1]) as u8,
-        Fault::Byte(byte, value) if has(statement + 12) => bytes[statement + byte] = value,
+        Fault::Kind(kind) if has(statement + width) => bytes[statement] = kind,
+        Fault::Limit(byte) if has(statement + width) => bytes[statement + byte] = size(bytes, [0, 1, 0, 1, 0, 1][byte - 1]) as u8,
+        Fault::Byte(byte, value) if has(statement + width) => bytes[statement + byte] = value,
         Fault::Period(bounds) if has(period + 8) => {
             let (from, to) = (word(&bytes[period..], 0), word(&bytes[period..], 1));
             let (beyond, last) = (u32::MAX, u32::MAX - 1);
@@ -112,7 +122,7 @@ pub fn make(fault: Fault, bytes: &mut Vec<u8>, count: usize, place: usize) {
             };
             bytes[period..period + 8].copy_from_slice(&[from.to_le_bytes(), to.to_le_bytes()].concat());
         }
-        Fault::Serial(number) if has(6 + 12 * count) => {
+        Fault::Serial(number) if width == 12 && has(6 + 12 * count) => {
             let serial = |place: usize| word(&bytes[6 + 12 * place + 8..], 0);
             let new = match number {
                 Number::Zero => 0,

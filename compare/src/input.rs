@@ -48,6 +48,21 @@ pub struct Intervals<'a> {
     pub fill: u64,
 }
 
+/// The file is an old one.
+#[derive(Clone, Debug)]
+pub struct Forward<'a> {
+    pub file: &'a [u8],
+    pub length: usize,
+    pub fill: u64,
+}
+
+#[derive(Clone, Debug)]
+pub struct Back<'a> {
+    pub file: &'a [u8],
+    pub length: usize,
+    pub fill: u64,
+}
+
 #[derive(Clone, Debug)]
 pub enum Input<'a> {
     Complete(Complete<'a>),
@@ -55,6 +70,8 @@ pub enum Input<'a> {
     Check(Check<'a>),
     Ends(Ends<'a>),
     Intervals(Intervals<'a>),
+    Forward(Forward<'a>),
+    Back(Back<'a>),
 }
 
 impl Input<'_> {
@@ -65,6 +82,8 @@ impl Input<'_> {
             Input::Check(_) => Call::Check,
             Input::Ends(_) => Call::Ends,
             Input::Intervals(_) => Call::Intervals,
+            Input::Forward(_) => Call::Forward,
+            Input::Back(_) => Call::Back,
         }
     }
 
@@ -75,6 +94,8 @@ impl Input<'_> {
             Input::Check(i) => i.file,
             Input::Ends(i) => i.file,
             Input::Intervals(i) => i.file,
+            Input::Forward(i) => i.file,
+            Input::Back(i) => i.file,
         }
     }
 }
@@ -85,7 +106,7 @@ pub fn words(steps: &[Step]) -> [Vec<u8>; 4] {
     [list(|s| s.credential), list(|s| s.first), list(|s| s.second), list(|s| s.set)]
 }
 
-fn hex(bytes: &[u8]) -> String {
+pub fn hex(bytes: &[u8]) -> String {
     bytes.iter().map(|byte| format!("{byte:02x}")).collect()
 }
 
@@ -106,6 +127,8 @@ impl fmt::Display for Input<'_> {
             }
             Input::Ends(i) => write!(f, "ends file={} lengths={} fill={}", hex(i.file), i.length, i.fill),
             Input::Intervals(i) => write!(f, "intervals file={} spans={} lengths={} fill={}", hex(i.file), i.spans, i.length, i.fill),
+            Input::Forward(i) => write!(f, "forward file={} lengths={} fill={}", hex(i.file), i.length, i.fill),
+            Input::Back(i) => write!(f, "back file={} lengths={} fill={}", hex(i.file), i.length, i.fill),
         }
     }
 }
@@ -149,6 +172,8 @@ impl Words<'_> {
             }),
             "ends" => Input::Ends(Ends { file, length: lengths.parse().ok()?, fill }),
             "intervals" => Input::Intervals(Intervals { file, spans: self.value("spans")?.parse().ok()?, length: lengths.parse().ok()?, fill }),
+            "forward" => Input::Forward(Forward { file, length: lengths.parse().ok()?, fill }),
+            "back" => Input::Back(Back { file, length: lengths.parse().ok()?, fill }),
             _ => return None,
         })
     }

@@ -1,13 +1,13 @@
 //! Holds the calls of one implementation, input by input, against what the second implementation says.
 
 use crate::calls::{Call, Calls, Slice};
-use crate::input::{words, Check, Complete, Ends, Input, Intervals, Query};
+use crate::input::{words, Back, Check, Complete, Ends, Forward, Input, Intervals, Query};
 use crate::lent::Lent;
 use crate::random::Random;
 use crate::reference::checking::Step;
 use crate::reference::known::{steps, After, Known, Question};
 use crate::reference::meaning::Members;
-use crate::reference::{querying, Refusal, RIGHT};
+use crate::reference::{carrying, querying, Refusal, RIGHT};
 use crate::watch;
 use std::collections::BTreeMap;
 
@@ -20,7 +20,7 @@ pub type Compared<T> = Result<T, Failure>;
 /// Inputs compared: by kind and call, and by call and refusal number (0 for success).
 #[derive(Default)]
 pub struct Counts {
-    pub kinds: BTreeMap<&'static str, [u64; 6]>,
+    pub kinds: BTreeMap<&'static str, [u64; 8]>,
     pub replies: BTreeMap<(&'static str, u32), u64>,
     pub longest: u64,
     pub deepest: u64,
@@ -58,9 +58,14 @@ impl<'a> Comparison<'a> {
         self.subject.has(call)
     }
 
+    /// One file more, as its kind counts it.
+    pub fn counted(&mut self) {
+        self.counts.kinds.entry(self.kind).or_default()[0] += 1;
+    }
+
     /// A file, as its kind counts it, with what the second implementation knows of it.
     pub fn known(&mut self, file: &[u8]) -> Known {
-        self.counts.kinds.entry(self.kind).or_default()[0] += 1;
+        self.counted();
         Known::new(RIGHT, file)
     }
 
@@ -71,6 +76,8 @@ impl<'a> Comparison<'a> {
             Input::Check(i) => self.check(known, i).map(|_| ()),
             Input::Ends(i) => self.ends(known, i),
             Input::Intervals(i) => self.intervals(known, i),
+            Input::Forward(i) => self.forward(i).map(|_| ()),
+            Input::Back(i) => self.back(i).map(|_| ()),
         }
     }
 
@@ -196,6 +203,26 @@ impl<'a> Comparison<'a> {
         let (spans, length, fill) = (input.spans, input.length, input.fill);
         let expected = known.intervals(spans, length);
         self.one_list(Input::Intervals(input), length, fill, expected, |subject, file, list| subject.intervals(file, spans, list))
+    }
+
+    /// The new file, if one was written. Without the call, the second implementation's.
+    pub fn forward(&mut self, input: Forward) -> Compared<Option<Vec<u8>>> {
+        let (expected, length, fill) = (carrying::forward(&RIGHT, input.file, input.length), input.length, input.fill);
+        let new = expected.as_ref().ok().map(|(_, bytes)| bytes.clone());
+        if self.subject.has(Call::Forward) {
+            self.one_list(Input::Forward(input), length, fill, expected, |subject, old, list| subject.forward(old, list))?;
+        }
+        Ok(new)
+    }
+
+    /// The old file likewise.
+    pub fn back(&mut self, input: Back) -> Compared<Option<Vec<u8>>> {
+        let (expected, length, fill) = (carrying::back(&RIGHT, input.file, input.length), input.length, input.fill);
+        let old = expected.as_ref().ok().map(|(_, bytes)| bytes.clone());
+        if self.subject.has(Call::Back) {
+            self.one_list(Input::Back(input), length, fill, expected, |subject, file, list| subject.back(file, list))?;
+        }
+        Ok(old)
     }
 
     /// A call that is lent one list: the reply and the bytes are an equation.

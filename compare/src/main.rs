@@ -1,6 +1,7 @@
 //! Holds the library's C interface against a second implementation. See README.md.
 
 mod calls;
+mod carried;
 mod cases;
 mod damage;
 mod explore;
@@ -191,13 +192,14 @@ fn run(options: &Options) {
     println!("no difference, seed {}, {:.1} s", options.seed, start.elapsed().as_secs_f64());
 }
 
-fn row(name: &str, files: u64, [completed, queried, checked, ends, intervals]: [u64; 5]) {
+fn row(name: &str, files: u64, [completed, queried, checked, ends, intervals, forward, back]: [u64; 7]) {
     print!("{name:9} {files:7} files {completed:7} completed {queried:9} queried {checked:8} checked {ends:7} ends {intervals:7} intervals");
+    print!(" {forward:7} forward {back:7} back");
 }
 
 fn summary(counts: &Counts) {
     let total = |column: usize| counts.kinds.values().map(|row| row[column]).sum::<u64>();
-    row("all", total(0), [1, 2, 3, 4, 5].map(total));
+    row("all", total(0), [1, 2, 3, 4, 5, 6, 7].map(total));
     println!();
     for call in Call::ALL.into_iter().filter(|call| counts.replies.keys().any(|(name, _)| *name == call.name())) {
         let replies = counts.replies.iter().filter(|((name, _), _)| *name == call.name());
@@ -213,13 +215,15 @@ fn summary(counts: &Counts) {
 fn covered(subject: &dyn Calls, counts: &Counts) {
     for call in Call::ALL.into_iter().filter(|&call| subject.has(call)) {
         let last: &[u32] = match call {
-            Call::Complete => &[10],
-            Call::Query => &[10, 11, 12, 13],
-            Call::Check => &[11, 12, 14, 15, 16],
-            Call::Ends => &[],
-            Call::Intervals => &[11],
+            Call::Complete => &[17, 9, 10],
+            Call::Query => &[17, 9, 10, 11, 12, 13],
+            Call::Check => &[17, 9, 11, 12, 14, 15, 16],
+            Call::Ends => &[17, 9],
+            Call::Intervals => &[17, 9, 11],
+            Call::Forward => &[18],
+            Call::Back => &[17, 18, 19],
         };
-        for number in (0..10).chain([17]).chain(last.iter().copied()) {
+        for number in (0..9).chain(last.iter().copied()) {
             if !counts.replies.contains_key(&(call.name(), number)) {
                 println!("FAILED: no input made {} reply with {number}", call.name());
                 exit(1);

@@ -1,5 +1,6 @@
 //! Faults of a file and of a call's other arguments, one, two and more at once.
 
+use crate::carried::opened;
 use crate::damage;
 use crate::explore::*;
 use crate::extremes::with_ends;
@@ -28,7 +29,7 @@ pub fn damaged(c: &mut Comparison, random: &mut Random, count: usize) -> Compare
                 let places = (random.below(credentials), random.below(credentials));
                 damage::make(*one, &mut file, credentials, places.0);
                 damage::make(*other, &mut file, credentials, places.1);
-                let known = c.known(&file);
+                let known = opened(c, random, &file)?;
                 damaged_calls(c, random, &file, &known)?;
             }
         }
@@ -42,7 +43,8 @@ pub fn serials(c: &mut Comparison, random: &mut Random, count: usize) -> Compare
     use damage::{Bounds, Fault};
     let others = [Fault::Kind(6), Fault::Limit(1), Fault::Byte(7, 1), Fault::Period(Bounds::ToBeyond), Fault::Period(Bounds::Next)];
     for _ in 0..count {
-        for draft in [dense_of(random, 1), dense_of(random, 2), dense_of(random, 3), dense_of(random, 11), with_ends(random, 65), plain(random)] {
+        for draft in [dense_of(random, 1), dense_of(random, 2), dense_of(random, 3), dense_of(random, 11), with_ends(random, 65), plain(random, 256)]
+        {
             let credentials = draft.credentials.len();
             whole(c, random, &draft.without_serials())?;
             for order in serials::ORDERS {
@@ -55,7 +57,7 @@ pub fn serials(c: &mut Comparison, random: &mut Random, count: usize) -> Compare
                         for other in [random.choose(&others), Fault::Period(Bounds::ToBeyond)] {
                             let mut file = file.clone();
                             damage::make(other, &mut file, credentials, at);
-                            let known = c.known(&file);
+                            let known = opened(c, random, &file)?;
                             damaged_calls(c, random, &file, &known)?;
                         }
                     }
@@ -68,22 +70,22 @@ pub fn serials(c: &mut Comparison, random: &mut Random, count: usize) -> Compare
 
 /// All calls on a file, and questions where it is accepted.
 fn whole(c: &mut Comparison, random: &mut Random, file: &[u8]) -> Compared<()> {
-    let known = c.known(file);
+    let known = opened(c, random, file)?;
     query_some(c, random, file, &known, 3, 1)?;
     damaged_calls(c, random, file, &known)
 }
 
-/// 256 credentials with few memberships.
-fn plain(random: &mut Random) -> Draft {
+/// So many credentials with few memberships.
+pub fn plain(random: &mut Random, count: u32) -> Draft {
     let mut draft = Draft::new(4, 4);
-    for i in 0..256 {
+    for i in 0..count {
         draft.fact(random.below(4) as u32, i % 4, between(0, 1 + random.below(4) as u32));
     }
     draft
 }
 
 /// A dense file with exactly so many credentials.
-fn dense_of(random: &mut Random, count: usize) -> Draft {
+pub fn dense_of(random: &mut Random, count: usize) -> Draft {
     loop {
         let draft = dense(random, &SMALL);
         if draft.credentials.len() == count {
@@ -140,7 +142,7 @@ fn few_steps(random: &mut Random, length: usize) -> Vec<Step> {
 pub fn questions(c: &mut Comparison, random: &mut Random, count: usize) -> Compared<()> {
     for i in 0..count {
         let file = if i % 2 == 0 { spread(random).numbered(random) } else { dense(random, &SMALL).numbered(random) };
-        let known = c.known(&file);
+        let known = opened(c, random, &file)?;
         complete_all(c, random, &file, &known)?;
         query_some(c, random, &file, &known, 20, 2)?;
         let read = known.read.as_ref().unwrap();
@@ -175,7 +177,7 @@ pub fn random_bytes(c: &mut Comparison, random: &mut Random, count: usize) -> Co
                 file[6 + 12 * i + 8..6 + 12 * i + 12].copy_from_slice(&serial.to_le_bytes());
             }
         }
-        let known = c.known(&file);
+        let known = opened(c, random, &file)?;
         damaged_calls(c, random, &file, &known)?;
     }
     Ok(())
@@ -184,7 +186,7 @@ pub fn random_bytes(c: &mut Comparison, random: &mut Random, count: usize) -> Co
 pub fn lists(c: &mut Comparison, random: &mut Random, count: usize) -> Compared<()> {
     for _ in 0..count {
         let file = dense(random, &SMALL).numbered(random);
-        let known = c.known(&file);
+        let known = opened(c, random, &file)?;
         let fits = known.table().map_or(1, |table| table.len());
         let mut entries = vec![0, 1, 2, fits.saturating_sub(1), fits, fits + 1, 1023, 1024, 1025, 2000];
         entries.dedup();

@@ -1,6 +1,7 @@
 //! Files of all sizes and shapes that are within the limits or just beyond one.
 
 use super::faults::damaged_calls;
+use crate::carried::opened;
 use crate::explore::*;
 use crate::extremes::*;
 use crate::files::*;
@@ -14,7 +15,7 @@ use crate::reference::MOST;
 pub fn small(c: &mut Comparison, random: &mut Random, count: usize) -> Compared<()> {
     for _ in 0..count {
         let file = dense(random, &SMALL).numbered(random);
-        let known = c.known(&file);
+        let known = opened(c, random, &file)?;
         complete_all(c, random, &file, &known)?;
         query_some(c, random, &file, &known, 12, 4)?;
     }
@@ -24,7 +25,7 @@ pub fn small(c: &mut Comparison, random: &mut Random, count: usize) -> Compared<
 pub fn joint_small(c: &mut Comparison, random: &mut Random, count: usize) -> Compared<()> {
     for _ in 0..count {
         let file = dense(random, &SMALL).numbered(random);
-        let known = c.known(&file);
+        let known = opened(c, random, &file)?;
         let fits = known.table().map_or(0, |table| table.len());
         let length = random.choose(&[fits, fits + 1, MOST]).clamp(1, MOST);
         joint(c, random, &file, &known, length)?;
@@ -35,7 +36,7 @@ pub fn joint_small(c: &mut Comparison, random: &mut Random, count: usize) -> Com
 pub fn periods(c: &mut Comparison, random: &mut Random, count: usize) -> Compared<()> {
     for _ in 0..count {
         let file = timed(random).numbered(random);
-        let known = c.known(&file);
+        let known = opened(c, random, &file)?;
         complete_all(c, random, &file, &known)?;
         joint(c, random, &file, &known, 16)?;
     }
@@ -51,7 +52,7 @@ pub fn bounds(c: &mut Comparison, random: &mut Random, count: usize) -> Compared
         draft.fact(0, 0, one);
         draft.include(1, 0, other);
         let file = draft.bytes();
-        let known = c.known(&file);
+        let known = opened(c, random, &file)?;
         if known.read.is_err() {
             damaged_calls(c, random, &file, &known)?;
             continue;
@@ -73,7 +74,7 @@ pub fn medium(c: &mut Comparison, random: &mut Random, count: usize) -> Compared
             layered(random, entities, 8, credentials, &ends)
         };
         let file = draft.numbered(random);
-        let known = c.known(&file);
+        let known = opened(c, random, &file)?;
         complete_all(c, random, &file, &known)?;
         query_some(c, random, &file, &known, 40, 2)?;
     }
@@ -84,7 +85,7 @@ pub fn many_ends(c: &mut Comparison, random: &mut Random, count: usize) -> Compa
     for i in 0..count {
         let ends = [63, 64, 65][i % 3];
         let file = with_ends(random, ends).numbered(random);
-        let known = c.known(&file);
+        let known = opened(c, random, &file)?;
         assert!(known.read.as_ref().map_or(65, |file| file.ends.len()) == ends);
         complete_all(c, random, &file, &known)?;
         query_some(c, random, &file, &known, 60, 1)?;
@@ -108,7 +109,7 @@ pub fn full(c: &mut Comparison, random: &mut Random, count: usize) -> Compared<(
             }
         };
         let file = draft.numbered(random);
-        let known = c.known(&file);
+        let known = opened(c, random, &file)?;
         complete_all(c, random, &file, &known)?;
         query_some(c, random, &file, &known, 60, 2)?;
     }
@@ -126,7 +127,7 @@ pub fn deep(c: &mut Comparison, random: &mut Random, count: usize) -> Compared<(
             }
         };
         let file = draft.numbered(random);
-        let known = c.known(&file);
+        let known = opened(c, random, &file)?;
         complete_all(c, random, &file, &known)?;
         let Members::Levels(levels) = &*known.members(0) else { continue };
         let mut by_level: Vec<(usize, (u32, u32))> = levels.iter().map(|(&m, &level)| (level, m)).collect();
@@ -153,7 +154,7 @@ pub fn limit(c: &mut Comparison, random: &mut Random, count: usize) -> Compared<
         let total = [1024, 1025, 1023][i % 3];
         let widest = if i < 6 { 10 } else { random.within(6, 9) };
         let file = with_memberships(random, total, widest).numbered(random);
-        let known = c.known(&file);
+        let known = opened(c, random, &file)?;
         assert!(known.table().map_or(1025, |table| table.len()) == total);
         for length in [1022, 1023, 1024, 1025] {
             c.complete(&known, completed(&file, length, random.next()))?;

@@ -2,6 +2,7 @@
 
 mod faults;
 mod general;
+mod old;
 mod proofs;
 mod tiny;
 
@@ -35,6 +36,7 @@ pub const KINDS: &[Kind] = &[
     kind("periods", 600, general::periods, "the same with periods of one minute and more that touch and overlap, from minute 0 to 4,294,967,294"),
     kind("bounds", 1, general::bounds, "every from and to among 0, 1 and the last three numbers, for two credentials"),
     kind("serials", 4, faults::serials, "serials in every order; zero and used ones at chosen places, with other faults before, at and after them"),
+    kind("old", 2, old::old, "old files with every two faults, lists of all lengths; new files whose serials are right but at some places"),
     kind("damaged", 9, faults::damaged, "every two faults at once, with faults of the lists and the question"),
     kind("questions", 40, faults::questions, "questions within and beyond a file's numbers, with other faults"),
     kind("bytes", 30000, faults::random_bytes, "random bytes"),

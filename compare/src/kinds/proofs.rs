@@ -1,5 +1,6 @@
 //! Proofs that keep the rules in unusual ways, nearly keep them, or break them; step counts.
 
+use crate::carried::opened;
 use crate::explore::*;
 use crate::files::*;
 use crate::judge::{Compared, Comparison};
@@ -10,7 +11,7 @@ use crate::reference::meaning::Members;
 use crate::reference::{Rules, MOST, RIGHT};
 
 /// A small file that has memberships, with a minute at which it has some and one of these.
-fn provable(c: &mut Comparison, random: &mut Random) -> (Vec<u8>, Known, Question) {
+fn provable(c: &mut Comparison, random: &mut Random) -> Compared<(Vec<u8>, Known, Question)> {
     loop {
         let file = dense(random, &SMALL).numbered(random);
         let known = Known::new(RIGHT, &file);
@@ -21,14 +22,14 @@ fn provable(c: &mut Comparison, random: &mut Random) -> (Vec<u8>, Known, Questio
         let deep: Vec<(u32, u32)> = levels.iter().filter(|(_, &level)| level >= wanted).map(|(&m, _)| m).collect();
         if !deep.is_empty() {
             let (role, set) = random.choose(&deep);
-            return (file.clone(), c.known(&file), Question { role, set, minute });
+            return Ok((file.clone(), opened(c, random, &file)?, Question { role, set, minute }));
         }
     }
 }
 
 pub fn broken(c: &mut Comparison, random: &mut Random, count: usize) -> Compared<()> {
     for _ in 0..count {
-        let (file, known, q) = provable(c, random);
+        let (file, known, q) = provable(c, random)?;
         let Some(proof) = c.query(&known, queried(&file, q, MOST, random.next()))? else { continue };
         let read = known.read.as_ref().unwrap();
         let mut all = proofs::each_word(read, &proof.steps);
@@ -71,7 +72,7 @@ fn grown_proofs(c: &mut Comparison, random: &mut Random, file: &[u8], known: &Kn
 
 pub fn counts(c: &mut Comparison, random: &mut Random, count: usize) -> Compared<()> {
     for _ in 0..count {
-        let (file, known, q) = provable(c, random);
+        let (file, known, q) = provable(c, random)?;
         let Some(proof) = c.query(&known, queried(&file, q, MOST, random.next()))? else { continue };
         let steps = proof.steps.len() as u64;
         for length in [steps, steps + 1, steps + 5, MOST as u64, MOST as u64 + 1] {

@@ -1,5 +1,6 @@
 //! Every file and every proof within small numbers.
 
+use crate::carried::carried;
 use crate::explore::*;
 use crate::files::*;
 use crate::judge::{Compared, Comparison};
@@ -24,6 +25,9 @@ const TINY: [Tiny; 6] = [
     Tiny { entities: 2, names: 1, credentials: 3, ordered: false, periods: 3 },
     Tiny { entities: 3, names: 1, credentials: 3, ordered: false, periods: 1 },
 ];
+
+/// Forward and back are compared on all of these files, the memberships by the old reading on one in so many.
+const SELDOM: usize = 16;
 
 pub fn tiny(c: &mut Comparison, random: &mut Random, per_thousand: usize) -> Compared<()> {
     for size in &TINY {
@@ -50,6 +54,7 @@ pub fn tiny(c: &mut Comparison, random: &mut Random, per_thousand: usize) -> Com
 fn tiny_file(c: &mut Comparison, random: &mut Random, draft: &Draft) -> Compared<()> {
     let file = draft.bytes();
     let known = c.known(&file);
+    carried(c, random, &file, SELDOM)?;
     if draft.credentials.iter().any(|(statement, _)| statement[0] == 0) {
         return joint(c, random, &file, &known, 16);
     }
@@ -85,6 +90,7 @@ pub fn tiny_proofs(c: &mut Comparison, random: &mut Random, per_thousand: usize)
             draft.credentials = vec![(*one, (0, 1)), (*other, (0, 0))];
             let file = draft.bytes();
             let known = c.known(&file);
+            carried(c, random, &file, SELDOM)?;
             for i in 0..steps.len() * (steps.len() + 1) {
                 if random.below(1000) >= per_thousand {
                     continue;

@@ -1,11 +1,13 @@
-//! A second implementation of the calls of document 01, written from documents 01, 02 (requests One and Two) and 003 and not from the library.
+//! A second implementation of the calls of document 01, written from documents 01, 02 (requests One, Two and Three) and 003 and not from the library.
 //! It is as slow and as plain as it can be: every minute's memberships are Definition 3's sequence from nothing.
 
+pub mod carrying;
 pub mod checking;
 pub mod completing;
 pub mod ends;
 pub mod known;
 pub mod meaning;
+pub mod old;
 pub mod querying;
 pub mod reading;
 
@@ -30,9 +32,19 @@ pub struct Rules {
     pub combines: fn(kind: u8, x: u32, y: u32) -> Option<u32>,
     /// How many members of the sequence are computed at most.
     pub rounds: usize,
+    /// The old file that the bytes are, or the refusal.
+    pub reads_old: fn(bytes: &[u8]) -> Result<File, Refusal>,
+    /// The serial that a position gets on the way forward.
+    pub numbers: fn(position: usize) -> u32,
+    /// Whether 19 refuses the serial at a position.
+    pub strange: fn(position: usize, serial: u32) -> bool,
+    /// What becomes of from and to on the way forward, and on the way back.
+    pub lowers: fn(from: u32, to: u32) -> (u32, u32),
+    pub raises: fn(from: u32, to: u32) -> (u32, u32),
 }
 
-pub const RIGHT: Rules = Rules { reads: read, taken, refuses, covers, end, links, combines, rounds: usize::MAX };
+pub const RIGHT: Rules =
+    Rules { reads: read, taken, refuses, covers, end, links, combines, rounds: usize::MAX, reads_old, numbers, strange, lowers, raises };
 
 fn taken(earlier: &[u32], serial: u32) -> bool {
     serial == 0 || earlier.contains(&serial)
@@ -61,6 +73,28 @@ fn combines(kind: u8, x: u32, y: u32) -> Option<u32> {
         4 => Some(x | y),
         _ => (x & y == 0).then_some(x | y),
     }
+}
+
+fn reads_old(bytes: &[u8]) -> Result<File, Refusal> {
+    old::read_old(&old::OLD, bytes)
+}
+
+fn numbers(position: usize) -> u32 {
+    position as u32 + 1
+}
+
+fn strange(position: usize, serial: u32) -> bool {
+    serial != position as u32 + 1
+}
+
+/// Of an old period that is not refused, so that `to` is above 0.
+fn lowers(from: u32, to: u32) -> (u32, u32) {
+    (from, to.wrapping_sub(1))
+}
+
+/// Of a period that is not refused, so that `to` is below 4,294,967,295.
+fn raises(from: u32, to: u32) -> (u32, u32) {
+    (from, to.wrapping_add(1))
 }
 
 /// Role issuer.name as a number.

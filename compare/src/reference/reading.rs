@@ -18,10 +18,11 @@ pub enum Body {
 
 #[derive(Clone, Copy, PartialEq, Eq, Debug)]
 pub struct Credential {
+    /// 0 in an old file, which has none.
     pub serial: u32,
     pub head: u32,
     pub body: Body,
-    /// As the file has them: both minutes are covered.
+    /// As the file has them: both minutes are covered; in an old file, `to` is not.
     pub from: u32,
     pub to: u32,
 }
@@ -31,29 +32,27 @@ pub struct File {
     pub entities: u32,
     pub names: u32,
     pub credentials: Vec<Credential>,
-    /// The distinct from values and `to` values plus one, ascending.
+    /// The distinct from values and `to` values plus one, ascending; in an old file, the from and to values.
     pub ends: Vec<u32>,
 }
 
 pub fn read(rules: &Rules, bytes: &[u8]) -> Result<File, Refusal> {
-    if bytes.len() < 6 {
-        return refuse(1);
-    }
-    let size = |at: usize| bytes[at] as usize + 256 * bytes[at + 1] as usize;
-    let (entities, names, count) = (size(0), size(2), size(4));
-    if entities < 1 || entities > 32 || names < 1 || names > 32 || count > 256 {
-        return refuse(2);
-    }
+    with_ends(rules, credentials(rules, bytes)?)
+}
+
+/// The file without its ends, or the first of the refusals 1 to 7 and 17.
+pub fn credentials(rules: &Rules, bytes: &[u8]) -> Result<File, Refusal> {
+    let (entities, names, count) = sizes(bytes)?;
     if bytes.len() != 6 + 20 * count {
         return refuse(3);
     }
-    let mut file = File { entities: entities as u32, names: names as u32, credentials: Vec::new(), ends: Vec::new() };
+    let mut file = File { entities, names, credentials: Vec::new(), ends: Vec::new() };
     let mut serials = Vec::new();
     for place in 0..count {
         let statement = &bytes[6 + 12 * place..][..12];
         let period = &bytes[6 + 12 * count + 8 * place..][..8];
         let refused = |number| Err(Refusal { number, place: place as u32 });
-        match credential(rules, statement, period, file.entities, file.names) {
+        match credential(rules, &statement[..8], word(statement, 2), period, entities, names) {
             Err(number) => return refused(number),
             Ok(credential) if (rules.taken)(&serials, credential.serial) => return refused(17),
             Ok(credential) => {
@@ -62,6 +61,24 @@ pub fn read(rules: &Rules, bytes: &[u8]) -> Result<File, Refusal> {
             }
         }
     }
+    Ok(file)
+}
+
+/// E, R and N, or 1 or 2.
+pub fn sizes(bytes: &[u8]) -> Result<(u32, u32, usize), Refusal> {
+    if bytes.len() < 6 {
+        return refuse(1);
+    }
+    let size = |at: usize| bytes[at] as usize + 256 * bytes[at + 1] as usize;
+    let (entities, names, count) = (size(0), size(2), size(4));
+    if entities < 1 || entities > 32 || names < 1 || names > 32 || count > 256 {
+        return refuse(2);
+    }
+    Ok((entities as u32, names as u32, count))
+}
+
+/// The file with its ends, or 8.
+pub fn with_ends(rules: &Rules, mut file: File) -> Result<File, Refusal> {
     let ends: BTreeSet<u32> = file.credentials.iter().flat_map(|c| [c.from, (rules.end)(c.to)]).collect();
     file.ends = ends.into_iter().collect();
     if file.ends.len() > 64 {
@@ -80,8 +97,8 @@ pub fn uses(kind: u8) -> [bool; 4] {
     }
 }
 
-/// One credential, or the number of its first refusal of 4 to 7.
-fn credential(rules: &Rules, statement: &[u8], period: &[u8], entities: u32, names: u32) -> Result<Credential, u32> {
+/// One credential of a statement of 8 bytes, a serial and a period, or the number of its first refusal of 4 to 7.
+pub fn credential(rules: &Rules, statement: &[u8], serial: u32, period: &[u8], entities: u32, names: u32) -> Result<Credential, u32> {
     let kind = statement[0];
     if kind > 5 {
         return Err(4);
@@ -105,7 +122,7 @@ fn credential(rules: &Rules, statement: &[u8], period: &[u8], entities: u32, nam
         2 => Body::Linked(role(b, s), t),
         _ => Body::Pair(kind, role(b, s), role(c, t)),
     };
-    Ok(Credential { serial: word(statement, 2), head: role(issuer, name), body, from, to })
+    Ok(Credential { serial, head: role(issuer, name), body, from, to })
 }
 
 /// The 32-bit number at a position counted in numbers, lowest byte first.

@@ -1,5 +1,6 @@
 //! Wrong variants of the second implementation, to show that the comparison can fail.
 
+mod carrying;
 mod checking;
 mod completing;
 mod ends;
@@ -16,6 +17,7 @@ type Querying = fn(&Second, Slice, Question, [Slice; 4]) -> u64;
 type Checking = fn(&Second, Slice, Question, [Slice; 4], u64) -> u64;
 type Ends = fn(&Second, Slice, Slice) -> u64;
 type Intervals = fn(&Second, Slice, u64, Slice) -> u64;
+type Carrying = fn(&Second, Slice, Slice) -> u64;
 
 /// The second implementation with other rules, or with another call around one of its calls.
 #[derive(Clone, Copy)]
@@ -28,6 +30,8 @@ pub struct Wrong {
     check: Checking,
     ends: Ends,
     intervals: Intervals,
+    forward: Carrying,
+    back: Carrying,
 }
 
 impl Calls for Wrong {
@@ -54,6 +58,14 @@ impl Calls for Wrong {
     fn intervals(&self, file: Slice, spans: u64, list: Slice) -> u64 {
         (self.intervals)(&Second { rules: self.rules }, file, spans, list)
     }
+
+    fn forward(&self, old: Slice, list: Slice) -> u64 {
+        (self.forward)(&Second { rules: self.rules }, old, list)
+    }
+
+    fn back(&self, file: Slice, list: Slice) -> u64 {
+        (self.back)(&Second { rules: self.rules }, file, list)
+    }
 }
 
 const NOT_WRONG: Wrong = Wrong {
@@ -65,6 +77,8 @@ const NOT_WRONG: Wrong = Wrong {
     check: Second::check,
     ends: Second::ends,
     intervals: Second::intervals,
+    forward: Second::forward,
+    back: Second::back,
 };
 
 const fn rules(name: &'static str, rules: Rules, what: &'static str) -> Wrong {
@@ -89,6 +103,14 @@ const fn ends(name: &'static str, ends: Ends, what: &'static str) -> Wrong {
 
 const fn intervals(name: &'static str, intervals: Intervals, what: &'static str) -> Wrong {
     Wrong { name, what, intervals, ..NOT_WRONG }
+}
+
+const fn forward(name: &'static str, forward: Carrying, what: &'static str) -> Wrong {
+    Wrong { name, what, forward, ..NOT_WRONG }
+}
+
+const fn back(name: &'static str, back: Carrying, what: &'static str) -> Wrong {
+    Wrong { name, what, back, ..NOT_WRONG }
 }
 
 /// Document 01's kinds, of which a variant changes one.
@@ -149,7 +171,7 @@ const SUM_TESTED: Rules =
 
 /// Every wrong variant.
 pub fn all() -> Vec<Wrong> {
-    [RULES, serials::ALL, completing::ALL, querying::ALL, checking::ALL, ends::ALL].concat()
+    [RULES, serials::ALL, completing::ALL, querying::ALL, checking::ALL, ends::ALL, carrying::ALL].concat()
 }
 
 fn number(reply: u64) -> u64 {

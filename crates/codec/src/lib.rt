@@ -45,7 +45,7 @@ pub fn encode64(dst: &mut [u8], src: &[u64], n: usize)
 }
 
 // The number that at most 8 bytes are.
-fn get(src: &[u8]) -> u64
+pub fn get(src: &[u8]) -> u64
     requires { ⌜ length (now src) ≤ 8 ⌝ }
     ensures { λ r. ⌜ (r ≡ entry (length (now (src .entry))) (now (src .entry))) × (r < 256 ^ length (now (src .entry))) ⌝ }
 {
@@ -59,7 +59,7 @@ fn get(src: &[u8]) -> u64
 }
 
 // Fills a list with a number's bytes.
-fn put(dst: &mut [u8], x: u64)
+pub fn put(dst: &mut [u8], x: u64)
     ensures { λ _. ⌜ now (dst .exit) ≡ bytes (length (now (dst .entry))) x ⌝ }
 {
     let mut rest = x;

@@ -53,13 +53,13 @@ all-in p (x ∷ l) h = and-in (p x) (all p l) (h x (head refl)) (all-in p l (λ 
 ruleset parts = (and-left, and-right, leb→le, ltb→lt, eqb→eq)
 
 module _ (f : List ℕ) where
-  abbrev limitsTest : Bool
+  abbrev pub limitsTest : Bool
   limitsTest = between 1 32 (E f) && between 1 32 (R f) && between 0 256 (N f)
 
-  limits-out : T limitsTest → Limits f
+  pub limits-out : T limitsTest → Limits f
   limits-out t = record { entities = (search parts, search parts); names = (search parts, search parts); credentials = search parts }
 
-  limits-in : Limits f → T limitsTest
+  pub limits-in : Limits f → T limitsTest
   limits-in l =
       and-in (between 1 32 (E f) && between 1 32 (R f)) (between 0 256 (N f))
       (and-in (between 1 32 (E f)) (between 1 32 (R f)) (inside 1 32 (E f) (l .entities)) (inside 1 32 (R f) (l .names)))
@@ -95,10 +95,10 @@ module _ (f : List ℕ) where
 -- ---- rows that are passed over
 
 module _ (f : List ℕ) where
-  abbrev shortRow : RefusalRow
+  abbrev pub shortRow : RefusalRow
   shortRow = 1 when (ltb (length f) 6)
 
-  abbrev limitsRow : RefusalRow
+  abbrev pub limitsRow : RefusalRow
   limitsRow = 2 when (not (limitsTest f))
 
   abbrev lengthRow : RefusalRow
@@ -121,10 +121,10 @@ module _ (f : List ℕ) where
   rowsFrom i n = each (checkRows f) (upFrom i n) ++ endsRow f ∷ []
 
 module _ {A : Type 0} (a : A) (f : List ℕ) where
-  short-passes : 6 ≤ length f → (rows : List RefusalRow) → first (shortRow f ∷ rows) a ≡ first rows a
+  pub short-passes : 6 ≤ length f → (rows : List RefusalRow) → first (shortRow f ∷ rows) a ≡ first rows a
   short-passes h rows = pass a (shortRow f) rows (λ t. omega (arith, ltb→lt (length f) 6 t))
 
-  limits-pass : Limits f → (rows : List RefusalRow) → first (limitsRow f ∷ rows) a ≡ first rows a
+  pub limits-pass : Limits f → (rows : List RefusalRow) → first (limitsRow f ∷ rows) a ≡ first rows a
   limits-pass l rows = pass a (limitsRow f) rows (λ t. T-not (limitsTest f) t (limits-in f l))
 
   length-passes : length f ≡ lengthFor (N f) → (rows : List RefusalRow) → first (lengthRow f ∷ rows) a ≡ first rows a

@@ -2,11 +2,10 @@
 // that refusal for them, of 10 a call with lists of 1,024 entries.
 ghost use mathlib.Core.Path.{_≡_};
 ghost use mathlib.Core.Bool.{not};
-ghost use Prim.Native.Nat.{_+_, _<_};
 ghost use lib.Dec.{eqb, leb};
 ghost use Rattle.meaning.specs.Lists.{if as Lists·if};
 ghost use Rattle.text.specs.Lines.{LinedIn};
-ghost use Rattle.file.specs.Format.{four, field};
+ghost use Rattle.file.specs.Format.{field};
 ghost use Rattle.file.specs.Reading.{between, uses};
 ghost use Rattle.sentences.specs.Words.{firstOf};
 ghost use Rattle.sentences.specs.Filling.{sentence};
@@ -127,8 +126,8 @@ fn period(file: &[u8], place: u32) -> Sentence
 {
     let n = sentences::two_at(file, 4);
     let at = 6 + 12 * n as usize + 8 * place as usize;
-    let from = four_at(file, at);
-    let to = four_at(file, at + 4);
+    let from = sentences::four_at(file, at);
+    let to = sentences::four_at(file, at + 4);
     if to < from {
         return Sentence(12, [place, from, to, 0]);
     }
@@ -138,7 +137,7 @@ fn period(file: &[u8], place: u32) -> Sentence
 fn serial(file: &[u8], place: u32) -> Sentence
     ensures { λ r. ⌜ sentence fileWords r ≡ ofCredential place (serialText (now (file .entry)) place) ⌝ }
 {
-    let x = four_at(file, 14 + 12 * place as usize);
+    let x = sentences::four_at(file, 14 + 12 * place as usize);
     if x == 0 {
         return Sentence(14, [place, 0, 0, 0]);
     }
@@ -150,15 +149,6 @@ fn field_at(file: &[u8], i: u32, j: u32) -> u32
     ensures { λ r. ⌜ r ≡ field (now (file .entry)) i j ⌝ }
 {
     sentences::byte_at(file, 6 + 12 * i as usize + j as usize)
-}
-
-fn four_at(file: &[u8], p: usize) -> u32
-    requires { ⌜ p + 2 < 1099511627776 ⌝ }
-    ensures { λ r. ⌜ r ≡ four (now (file .entry)) p ⌝ }
-{
-    let low = sentences::two_at(file, p);
-    let high = sentences::two_at(file, p + 2);
-    low + 65536 * high
 }
 
 fn within(x: u32) -> bool

@@ -1,7 +1,9 @@
 // Lines of text in a buffer of 128 bytes. A function that writes a line returns how many bytes it has, and leaves the bytes after it as they were.
 ghost use mathlib.Core.List.{[], _∷_};
-ghost use Rattle.text.specs.Lines.{Lined, line};
-ghost use Rattle.lines.specs.Printed.{refusedLine, intervalLine};
+ghost use Prim.Native.Nat.{_≤_};
+ghost use lib.ListN.{length};
+ghost use Rattle.text.specs.Lines.{Put, Lined, line};
+ghost use Rattle.lines.specs.Printed.{refusedWith, refusedLine, refusedStart, intervalLine};
 
 // One number.
 pub fn number_line(out: &mut [u8; 128], x: u32) -> usize
@@ -22,9 +24,15 @@ pub fn pair_line(out: &mut [u8; 128], x: u32, y: u32) -> usize
 pub fn refused_line(out: &mut [u8; 128], number: u32, place: u32) -> usize
     ensures { λ r. ⌜ Lined (now (out .entry)) (now (out .exit)) r (refusedLine number place) ⌝ }
 {
-    let number_at = text::put_bytes(out, 0, b"refused ");
-    let place_at = text::put_field(out, number_at, number, b' ');
-    text::put_field(out, place_at, place, b'\n')
+    put_refused(out, number, place, b'\n')
+}
+
+// `refused`, number, place, a colon and a space: the start of a line that goes on with a sentence.
+pub fn refused_start(out: &mut [u8; 128], number: u32, place: u32) -> usize
+    ensures { λ r. ⌜ Lined (now (out .entry)) (now (out .exit)) r (refusedStart number place) ⌝ }
+{
+    let next = put_refused(out, number, place, b':');
+    text::put_byte(out, next, b' ')
 }
 
 // Issuer, name, set, from, to.
@@ -36,4 +44,14 @@ pub fn interval_line(out: &mut [u8; 128], role: u32, set: u32, from: u32, to: u3
     let from_at = text::put_field(out, set_at, set, b' ');
     let to_at = text::put_field(out, from_at, from, b' ');
     text::put_field(out, to_at, to, b'\n')
+}
+
+// `refused`, number, place and the byte after them.
+fn put_refused(out: &mut [u8], number: u32, place: u32, end: u8) -> usize
+    requires { ⌜ 30 ≤ length (now out) ⌝ }
+    ensures { λ r. ⌜ Put (now (out .entry)) (now (out .exit)) 0 r 30 (refusedWith number place end) ⌝ }
+{
+    let number_at = text::put_bytes(out, 0, b"refused ");
+    let place_at = text::put_field(out, number_at, number, b' ');
+    text::put_field(out, place_at, place, end)
 }

@@ -1,21 +1,18 @@
 -- What the calls for C share (document 01): lists cross as bytes, lowest first, and the reply is one 64-bit number.
 use mathlib.Core.Bool.{Bool, true, _&&_}
 use mathlib.Core.List.{List, [], _∷_, _++_}
-use Prim.Native.Nat.{ℕ, _+_, _*_, _/_, _<_}
-use lib.ListN.{length, getD}
+use Prim.Native.Nat.{ℕ, _+_, _*_, _/_}
+use lib.ListN.{length}
 use Rattle.file.specs.Refusals.{Outcome, done, refused, first, _when_}
 use Rattle.file.specs.Reading.{reading}
 use Rattle.asking.specs.Asking.{StepLists, stepLists}
 use Rattle.codec.specs.Bytes.{entries, whole}
+pub use Rattle.codec.specs.ByteLists.{Bytes}
 
 -- the reply: refusal number × 4,294,967,296 + place, or the value on success
 abbrev pub word : {A : Type 0} → (A → ℕ) → Outcome A → ℕ
 word value (done a) = value a
 word value (refused n p) = n * 4294967296 + p
-
--- a list of bytes, as every file and list that C lends
-abbrev pub Bytes : List ℕ → Type 0
-Bytes f = (i : ℕ) → getD f i 0 < 256
 
 -- 9 also for a length that isn't whole entries
 abbrev pub notWhole : {A : Type 0} → List ℕ → A → Outcome A

@@ -8,6 +8,8 @@ ghost use Rattle.query_bytes.specs.Interface.{QueriedBytes};
 ghost use Rattle.check_bytes.specs.Interface.{checkReply};
 ghost use Rattle.ends_bytes.specs.Interface.{endsReply, endsBytes};
 ghost use Rattle.intervals_bytes.specs.Interface.{intervalsReply, intervalsBytes};
+ghost use Rattle.carrying.specs.Carrying.{goingForward, forwardLeft, goingBack, backLeft, saysCarried};
+use carrying::Carried;
 
 // Completes the table.
 #[no_mangle]
@@ -97,4 +99,33 @@ pub extern "C" fn rtt_intervals(file: &[u8], spans: u64, bounds: &mut [u8]) -> u
     ensures { λ _. ⌜ now (bounds .exit) ≡ intervalsBytes (now (file .entry)) spans (now (bounds .entry)) ⌝ }
 {
     intervals_bytes::intervals(bounds, file, spans)
+}
+
+// Writes the new file of an old one; the reply is the count of its credentials.
+#[no_mangle]
+pub extern "C" fn rtt_forward(old: &[u8], file: &mut [u8]) -> u64
+    ensures { λ r. ⌜ r ≡ word (λ n. n) (goingForward (now (old .entry)) (now (file .entry))) ⌝ }
+    ensures { λ _. ⌜ now (file .exit) ≡ forwardLeft (now (old .entry)) (now (file .entry)) ⌝ }
+{
+    let answer = carrying::forward(old, file);
+    number_of(answer)
+}
+
+// Writes the old file of a new one; the reply is the count of its credentials.
+#[no_mangle]
+pub extern "C" fn rtt_back(file: &[u8], old: &mut [u8]) -> u64
+    ensures { λ r. ⌜ r ≡ word (λ n. n) (goingBack (now (file .entry)) (now (old .entry))) ⌝ }
+    ensures { λ _. ⌜ now (old .exit) ≡ backLeft (now (file .entry)) (now (old .entry)) ⌝ }
+{
+    let answer = carrying::back(file, old);
+    number_of(answer)
+}
+
+fn number_of(answer: Carried) -> u64
+    ensures { λ r. ⌜ r ≡ word (λ n. n) (saysCarried answer) ⌝ }
+{
+    match answer {
+        Carried::Credentials(count) => count as u64,
+        Carried::Refused { number, place } => replies::refusal(number, place),
+    }
 }

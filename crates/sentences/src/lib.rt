@@ -1,4 +1,4 @@
-// Sentences: lines in a buffer of 256 bytes, made of words with places for numbers. Also the numbers of one and two bytes that a file holds.
+// Sentences: lines in a buffer of 256 bytes, made of words with places for numbers. Also the numbers of one, two and four bytes that a file holds.
 ghost use mathlib.Core.Path.{_≡_};
 ghost use mathlib.Core.Bool.{true};
 ghost use mathlib.Core.List.{_++_};
@@ -6,7 +6,7 @@ ghost use Prim.Native.Nat.{_+_, _≤_, _<_};
 ghost use lib.ListN.{drop};
 ghost use Rattle.text.specs.Ascii.{ascii};
 ghost use Rattle.text.specs.Lines.{Put, LinedIn};
-ghost use Rattle.file.specs.Format.{byte, two};
+ghost use Rattle.file.specs.Format.{byte, two, four};
 ghost use Rattle.sentences.specs.Filling.{beginning, piece, turned, next, filled, lineFrom, sentence, most, fitting};
 
 // A line of some words, counted from 0, and the numbers in it.
@@ -52,6 +52,16 @@ pub fn two_at(file: &[u8], p: usize) -> u32
     let low = byte_at(file, p);
     let high = byte_at(file, p + 1);
     low + 256 * high
+}
+
+// The number of four bytes at p, lowest first.
+pub fn four_at(file: &[u8], p: usize) -> u32
+    requires { ⌜ p + 2 < 1099511627776 ⌝ }
+    ensures { λ r. ⌜ r ≡ four (now (file .entry)) p ⌝ }
+{
+    let low = two_at(file, p);
+    let high = two_at(file, p + 2);
+    low + 65536 * high
 }
 
 // Before the first byte of a line.

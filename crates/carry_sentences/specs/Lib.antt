@@ -1,0 +1,2 @@
+pub mod CarrySentences
+pub mod CarryWords

@@ -1,0 +1,13 @@
+pub mod Bytes
+pub mod Laid
+pub mod Forwarded
+pub mod OldKinds
+pub mod SameReading
+pub mod Parts
+pub mod Judged
+pub mod Answers
+pub mod Backed
+pub mod Returned
+pub mod OldExact
+pub mod Exact
+pub mod Claims

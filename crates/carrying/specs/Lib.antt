@@ -1,0 +1,4 @@
+pub mod Carrying
+pub mod Judging
+pub mod Conditions
+pub mod Samples

@@ -1,0 +1,4 @@
+pub mod OldFormat
+pub mod OldReading
+pub mod Samples
+pub mod OldConditions
