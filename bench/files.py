@@ -1,5 +1,6 @@
 #!/usr/bin/env python3
-"""files.py DIR: writes the benchmark's credentials files there, the same ones on every run."""
+"""files.py DIR: writes the benchmark's credentials files into DIR/files and its withdrawal lists into DIR/lists, the same ones on
+every run."""
 import os
 import random
 import struct
@@ -50,35 +51,39 @@ class File:
     def room(self):
         return 256 - len(self.lines)
 
+    def serials(self):
+        """Position plus one, or they descend to 1."""
+        up = [i + 1 for i in range(len(self.lines))]
+        return up[::-1] if self.falling else up
+
     def bytes(self):
         assert len(self.lines) <= 256, len(self.lines)
         head = struct.pack('<3H', self.entities, self.names, len(self.lines))
-        # A serial is position plus one, or they descend to 1. In a file `to` is the last minute that is covered.
-        serials = [i + 1 for i in range(len(self.lines))]
-        if self.falling:
-            serials.reverse()
-        return (head + b''.join(bytes(x[:7]) + b'\0' + struct.pack('<I', serial) for x, serial in zip(self.lines, serials))
+        # In a file `to` is the last minute that is covered.
+        return (head + b''.join(bytes(x[:7]) + b'\0' + struct.pack('<I', serial) for x, serial in zip(self.lines, self.serials()))
                 + b''.join(struct.pack('<2I', start, stop - 1) for *_, start, stop in self.lines))
 
 
 # ---- honest files ----
 
-def office(seed):
-    """An office (0), three departments (1 to 3), eight people: two reviewers, or a partner with a reviewer."""
+def office(seed, size=1):
+    """An office (0), three departments (1 to 3), eight people, or `size` times as many, with as many credentials: two reviewers,
+    or a partner with a reviewer."""
     r = random.Random(f'office {seed}')
-    f = File(12, 8)
+    f = File(4 + 8 * size, 8)
+    person = lambda: r.randrange(4, 4 + 8 * size)
     STAFF, REVIEWER, PARTNER, DEPUTY, DEPARTMENT, PAIR, SENIOR, RELEASE = range(8)
     year = 525_600
     periods = [(0, year), (0, year), (0, year // 2), (year // 2, year), (90_000, 300_000), (20_160, 40_320)]
     p = lambda: r.choice(periods)
     for d in (1, 2, 3):
         f.member((0, DEPARTMENT), d, p())
-    for _ in range(14):
-        f.member((r.choice((1, 2, 3)), r.choice((STAFF, REVIEWER, REVIEWER))), r.randrange(4, 12), p())
-    for _ in range(3):
-        f.member((0, PARTNER), r.randrange(4, 12), p())
-    for _ in range(4):
-        f.member((r.choice((1, 2, 3)), DEPUTY), r.randrange(4, 12), p())
+    for _ in range(14 * size):
+        f.member((r.choice((1, 2, 3)), r.choice((STAFF, REVIEWER, REVIEWER))), person(), p())
+    for _ in range(3 * size):
+        f.member((0, PARTNER), person(), p())
+    for _ in range(4 * size):
+        f.member((r.choice((1, 2, 3)), DEPUTY), person(), p())
     for d in (1, 2, 3):
         f.include((d, REVIEWER), (d, DEPUTY), p())
         f.include((d, STAFF), (d, REVIEWER), p())
@@ -91,7 +96,7 @@ def office(seed):
     f.say(UNION, (0, RELEASE), (0, PARTNER), (1, REVIEWER), p())
     f.include((0, RELEASE), (0, PAIR), p())
     f.include((0, RELEASE), (0, SENIOR), p())
-    assert len(f.lines) == 40
+    assert len(f.lines) == 19 + 21 * size
     r.shuffle(f.lines)
     return f
 
@@ -407,6 +412,57 @@ def meets():
     return f
 
 
+# ---- withdrawal lists ----
+
+def withdrawals(entries):
+    """A list of (serial, minute): all serials come first, then all minutes."""
+    return struct.pack(f'<H{2 * len(entries)}I', len(entries), *[s for s, _ in entries], *[m for _, m in entries])
+
+
+def ordered(entries, order):
+    """In file order, in reverse order, or shuffled."""
+    if order == 'down':
+        return entries[::-1]
+    if order == 'mixed':
+        return random.Random('mixed').sample(entries, len(entries))
+    return entries
+
+
+def late(f):
+    """All credentials, each withdrawn from the first minute that it does not cover: nothing changes."""
+    return [(serial, stop) for serial, (*_, stop) in zip(f.serials(), f.lines)]
+
+
+def cutting(f):
+    """All credentials: each eighth has no minute left, the others lose minutes from an end within their period on."""
+    r = random.Random('cutting')
+    ends = sorted({end for *_, start, stop in f.lines for end in (start, stop)})
+    inner = lambda start, stop: r.choice([end for end in ends if start < end < stop])
+    return [(serial, inner(start, stop) if i % 8 else start)
+            for i, (serial, (*_, start, stop)) in enumerate(zip(f.serials(), f.lines))]
+
+
+def unknown(f):
+    """The last serial is on no credential."""
+    entries = late(f)
+    return entries[:-1] + [(max(f.serials()) + 1, entries[-1][1])]
+
+
+def repeated(f):
+    """The last serial is that of the entry before it."""
+    entries = late(f)
+    return entries[:-1] + entries[-2:-1]
+
+
+def leaving(f):
+    """The person with the most credentials leaves on day 200 at noon: three of them are withdrawn."""
+    theirs = {}
+    for serial, x in zip(f.serials(), f.lines):
+        if x[0] == SET:
+            theirs.setdefault(x[3], []).append(serial)
+    return [(serial, 200 * 1440 + 720) for serial in max(theirs.values(), key=len)[:3]]
+
+
 HONEST = {
     **{f'office-{i}': (lambda i=i: office(i)) for i in (1, 2, 3)},
     **{f'large-{i}': (lambda i=i: large(i)) for i in (1, 2, 3)},
@@ -419,8 +475,31 @@ HOSTILE = {
     'links': links, 'linked': linked, 'meets': meets,
 }
 
+# Measured with a withdrawal list alone.
+BESIDE = {'middle': lambda: office(4, 3)}
+FILES = {**HONEST, **HOSTILE, **BESIDE}
+# By name: the file, and the list for it.
+LISTS = {
+    **{f'{name}-{order}': ('large-1', lambda f, make=make, order=order: ordered(make(f), order))
+       for name, make in (('late', late), ('cut', cutting)) for order in ('up', 'down', 'mixed')},
+    'unknown': ('large-1', unknown), 'repeated': ('large-1', repeated),
+    'leaving': ('middle', leaving),
+}
+
+
+def entries(name):
+    """The serials and minutes of a list."""
+    file, make = LISTS[name]
+    return make(FILES[file]())
+
+
+def write(folder, contents):
+    os.makedirs(folder, exist_ok=True)
+    for name, content in contents.items():
+        with open(f'{folder}/{name}', 'wb') as out:
+            out.write(content)
+
+
 if __name__ == '__main__':
-    os.makedirs(sys.argv[1], exist_ok=True)
-    for name, make in {**HONEST, **HOSTILE}.items():
-        with open(f'{sys.argv[1]}/{name}', 'wb') as out:
-            out.write(make().bytes())
+    write(f'{sys.argv[1]}/files', {name: make().bytes() for name, make in FILES.items()})
+    write(f'{sys.argv[1]}/lists', {name: withdrawals(entries(name)) for name in LISTS})

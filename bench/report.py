@@ -1,7 +1,7 @@
 #!/usr/bin/env python3
 """Measures the library against the yardstick; called by bench/run.
 
-report.py DIR table|doc|quick|limits     DIR has the program `bench` and the folder `files`
+report.py DIR table|doc|quick|limits     DIR has the program `bench` and the folders `files` and `lists`
 
 table   everything, as tables on standard output       doc     the same, written into docs/BENCHMARKS.md
 quick   agreement, times and, with valgrind, instructions against bench/limits      limits   writes bench/limits"""
@@ -20,8 +20,10 @@ DIR, MODE = sys.argv[1:3]
 PROGRAM = f'{DIR}/bench'
 CALLS = 'complete', 'query', 'absent', 'ends', 'intervals', 'forward', 'back', 'check'
 BRINGING = 'forward', 'back'
+CUTTING = 'complete', 'query', 'ends', 'intervals', 'check'     # what takes a withdrawal list
 SECOND = 1e6                # a call may take no longer, in microseconds
 BROUGHT = 100_000           # instructions that forward and back may take for 256 credentials
+WITHDRAWN = 100             # microseconds that a call may take more with 256 withdrawals than with none
 MARGIN = 1.15               # of a limit over the ratio that was measured
 VALGRIND = shutil.which('valgrind')
 SWIPL = shutil.which('swipl')
@@ -44,15 +46,20 @@ def path(name):
     return f'{DIR}/files/{name}'
 
 
+def given(name):
+    """A withdrawal list with its file; or a file, with the list of count 0."""
+    return [path(files.LISTS[name][0]), f'{DIR}/lists/{name}'] if name in files.LISTS else [path(name), '-']
+
+
 def question(name, *how):
     """Role, set, minute, absent set; level; steps."""
-    w = run([PROGRAM, path(name), *(how or ['ask'])]).split()
+    w = run([PROGRAM, *given(name), *(how or ['ask'])]).split()
     return w[:4], int(w[4]), int(w[5])
 
 
 def timed(name, asked, call, whose, seconds, cap):
     """Reply and microseconds, or None above the cap."""
-    out = run([PROGRAM, path(name), 'time', *asked, str(seconds), call, whose], cap)
+    out = run([PROGRAM, *given(name), 'time', *asked, str(seconds), call, whose], cap)
     return out and (int(out.split()[0]), float(out.split()[1]))
 
 
@@ -64,7 +71,7 @@ def counted(name, asked, pairs):
     shutil.rmtree(out, ignore_errors=True)
     os.makedirs(out)
     subprocess.run([VALGRIND, '--tool=callgrind', '--toggle-collect=measured', '--dump-after=measured',
-                    f'--callgrind-out-file={out}/c', PROGRAM, path(name), 'once', *asked, *[w for p in pairs for w in p]],
+                    f'--callgrind-out-file={out}/c', PROGRAM, *given(name), 'once', *asked, *[w for p in pairs for w in p]],
                    check=True, capture_output=True, env={**os.environ, 'GLIBC_TUNABLES': TUNABLES, 'LD_BIND_NOW': '1'})
     counts = []
     for i in range(1, len(pairs) + 1):
@@ -109,18 +116,19 @@ def yardsticks(call):
     return ('plain', 'grouped') if call in ('complete', 'query', 'absent') else ('grouped',)
 
 
-def calls_on(steps):
+def calls_on(name, steps):
     """Checking is last, and only where there is a proof."""
-    return CALLS if steps else CALLS[:-1]
+    calls = CUTTING if name in files.LISTS else CALLS
+    return calls if steps else calls[:-1]
 
 
 def measure(name):
     """All calls on one file. Long calls are timed and not counted."""
     asked, level, steps = question(name)
     r = {'level': level, 'steps': steps, 'time': {}, 'reply': {}}
-    r['compared'] = int(run([PROGRAM, path(name), 'agree', *asked]))
+    r['compared'] = int(run([PROGRAM, *given(name), 'agree', *asked]))
     pairs = []
-    for call in calls_on(steps):
+    for call in calls_on(name, steps):
         for whose in ('rtt', *yardsticks(call)):
             t = timed(name, asked, call, whose, 0.2, 60)
             r['time'][f'{call} {whose}'] = t and t[1]
@@ -129,6 +137,29 @@ def measure(name):
                 pairs.append((call, whose))
     r['instructions'] = {' '.join(k): v for k, v in counted(name, asked, pairs).items()}
     return r, asked
+
+
+def least(name, asked, call, whose, times, seconds):
+    """Reply and least microseconds of several runs."""
+    return min((timed(name, asked, call, whose, seconds, None) for _ in range(times)), key=lambda t: t[1])
+
+
+def longer(name, asked, call, times, seconds):
+    """Microseconds that a call of the library takes more with a withdrawal list than with that of count 0."""
+    given_it, bare = (least(name, asked, lent + call, 'rtt', times, seconds)[1] for lent in ('', 'bare-'))
+    return given_it - bare
+
+
+def measure_list(name):
+    """The calls that take a withdrawal list, with this one and with that of count 0."""
+    asked, level, steps = question(name)
+    r = {'level': level, 'steps': steps, 'time': {}, 'reply': {}}
+    r['compared'] = int(run([PROGRAM, *given(name), 'agree', *asked]))
+    pairs = [(lent + call, whose) for call in calls_on(name, steps) for lent in ('', 'bare-') for whose in ('rtt', 'plain')]
+    for call in (c for c, whose in pairs if whose == 'rtt'):
+        r['reply'][f'{call} rtt'], r['time'][f'{call} rtt'] = least(name, asked, call, 'rtt', 3, 0.2)
+    r['instructions'] = {' '.join(k): v for k, v in counted(name, asked, pairs).items()}
+    return r
 
 
 # ---- the whole measurement ----
@@ -141,6 +172,10 @@ def whole():
             r['tabling'] = {'spans': tabled(name, 'spans'), 'minute': tabled(name, asked[2])}
         results[name] = r
         print(f'bench: {name}', file=sys.stderr, flush=True)
+    lists = {}
+    for name in files.LISTS:
+        lists[name] = measure_list(name)
+        print(f'bench: {name}', file=sys.stderr, flush=True)
     lengths = {}
     for steps in (10, 100, 1000):
         asked, level, got = question('deep', 'steps', str(steps))
@@ -148,8 +183,8 @@ def whole():
         lengths[got] = {'instructions': {' '.join(k): v for k, v in counted('deep', asked, pairs).items()},
                         'time': {w: timed('deep', asked, 'check', w, 0.2, 60)[1] for w in ('rtt', 'grouped')}}
     parts = {f'{call} {name}': by_function(name, question(name)[0], call)
-             for call, name in (('complete', 'large-1'), ('complete', 'office-1'), ('query', 'large-1'), ('check', 'deep'))}
-    out = {'files': results, 'lengths': lengths, 'parts': parts}
+             for call, name in (('complete', 'large-1'), ('complete', 'office-1'), ('query', 'large-1'), ('check', 'deep'), ('ends', 'late-mixed'))}
+    out = {'files': results, 'lists': lists, 'lengths': lengths, 'parts': parts}
     with open(f'{DIR}/results.json', 'w') as f:
         json.dump(out, f, indent=1)
     return out
@@ -183,6 +218,16 @@ def ratio(r, call, of=None):
         if ours is not None and theirs is not None:
             return ours / theirs, mark
     return None, ''
+
+
+def more(r, call, what, whose='rtt'):
+    """A figure with the list, less that with the list of count 0."""
+    had = [r[what].get(f'{lent}{call} {whose}') for lent in ('', 'bare-')]
+    return None if None in had else had[0] - had[1]
+
+
+def signed(x, say):
+    return '' if x is None else ('+' if x >= 0 else '−') + say(abs(x))
 
 
 def short(x):
@@ -241,11 +286,18 @@ def tables(out):
         body.append(['forward and back of 256 credentials, instructions', f'{number(min(had))} to {number(max(had))}', number(BROUGHT),
                      ('met' if not over else f'missed on {len(over)} of {len(had)}: ' + ', '.join(over))
                      + ('; refused, beside: ' + ', '.join(refused) if refused else '')])
+    # After a list that cuts there is less to do.
+    for form, what in (('late', '256 withdrawals that change nothing, more than none'), ('cut', '256 withdrawals that cut, more than none')):
+        had = [(more(r, c, 'time'), f'`{n}` {c}') for n, r in out['lists'].items() if n.startswith(form) for c in CUTTING]
+        over = [f'{who} {time(x)}' for x, who in had if x > WITHDRAWN]
+        body.append([what, f'{signed(min(had)[0], time)} to {signed(max(had)[0], time)}', '0.1 ms',
+                     'met' if not over else f'missed on {len(over)} of {len(had)}: ' + ', '.join(over)])
     slowest = max(((r['time'][f'{c} rtt'], n, c) for n, r in every.items() for c in CALLS if r['time'].get(f'{c} rtt')))
     body.append(['longest call of the library', f'{time(slowest[0])} (`{slowest[1]}`, {slowest[2]})', '0.5 s',
                  'met' if slowest[0] < SECOND / 2 else 'missed'])
     text.append(rows(['what', 'ratios', 'goal', ''], body))
-    text.append(f'Comparisons of replies and lists between library and yardstick: {sum(r["compared"] for r in every.values()):,}, no difference.\n')
+    compared = sum(r['compared'] for r in (*every.values(), *out['lists'].values()))
+    text.append(f'Comparisons of replies and lists between library and yardstick: {compared:,}, no difference.\n')
     part('Completing', 'Instructions of one call.')
     text.append(rows(
         ['file', 'reply', 'library', 'plain', 'grouped', 'library / plain', 'library / better'],
@@ -270,6 +322,14 @@ def tables(out):
             [[n, *[x for call in calls
                    for x in (reply(r, call), *[number(r['instructions'].get(f'{call} {w}')) for w in ('rtt', 'grouped')], shown(ratio(r, call)))]]
              for n, r in every.items()]))
+    part('Withdrawal lists', 'One call with the list; and what it takes more than with the list of count 0, on the same file, for the same '
+         'membership, proof and every other span.')
+    text.append(rows(
+        ['list', 'call', 'reply', 'library', 'more', 'plain', 'more', 'library / plain', 'library, time', 'more'],
+        [[n, c, reply(r, c), *[x for w in ('rtt', 'plain')
+                               for x in (number(r['instructions'].get(f'{c} {w}')), signed(more(r, c, 'instructions', w), number))],
+          shown(ratio(r, c, 'plain')), time(r['time'][f'{c} rtt']), signed(more(r, c, 'time'), time)]
+         for n, r in out['lists'].items() for c in CUTTING if f'{c} rtt' in r['time']]))
     part('Checking by length of the proof', 'Proofs of memberships of `deep`, one call.')
     at = {int(k): v for k, v in out['lengths'].items()}
     body = []
@@ -331,12 +391,12 @@ def limits():
 def quick():
     allowed = limits()
     bad, compared, held, brought = [], 0, 0, 0
-    for name in (*files.HONEST, *files.HOSTILE):
+    for name in (*files.HONEST, *files.HOSTILE, *files.LISTS):
         print(f'bench: {name}', file=sys.stderr, flush=True)
         asked, _, steps = question(name)
-        compared += int(run([PROGRAM, path(name), 'agree', *asked, 'grouped']))
+        compared += int(run([PROGRAM, *given(name), 'agree', *asked, 'grouped']))
         replies = {}
-        for call in calls_on(steps):
+        for call in calls_on(name, steps):
             replies[call], took = min(timed(name, asked, call, 'rtt', 0, None) for _ in range(2))
             if took > SECOND:
                 bad.append(f'{call} {name}: {time(took)}')
@@ -362,10 +422,10 @@ def write_limits():
     """A limit for each call that is short enough for the gate to count it: what was measured, or the one before where that is lower."""
     allowed = limits()
     lines = ['# Instructions of the library over those of the grouped yardstick, at most; written by `bench/run limits`, which raises none.']
-    for name in (*files.HONEST, *files.HOSTILE):
+    for name in (*files.HONEST, *files.HOSTILE, *files.LISTS):
         asked, _, steps = question(name)
         before = allowed.get(name, {})
-        calls = [c for c in calls_on(steps) if all(timed(name, asked, c, w, 0.05, 60)[1] < 4e3 for w in ('rtt', 'grouped'))]
+        calls = [c for c in calls_on(name, steps) if all(timed(name, asked, c, w, 0.05, 60)[1] < 4e3 for w in ('rtt', 'grouped'))]
         now = {c: ours / theirs * MARGIN for c, (ours, theirs) in both(name, asked, calls).items()}
         lines += [f'{name} {c} {min(x[c] for x in (before, now) if c in x):.2f}' for c in CALLS if c in before or c in now]
     with open(f'{HERE}/limits', 'w') as f:

@@ -17,8 +17,8 @@ static const uint8_t sets[]       = {2, 0, 0, 0,  8, 0, 0, 0, 10, 0, 0, 0};
 
 static uint64_t check(const uint8_t *file, size_t length, uint32_t people, uint32_t minute)
 {
-    return rtt_check(file, length, rtt_role(OFFICE, RELEASE), people, minute, credential, sizeof credential, first, sizeof first,
-                     second, sizeof second, sets, sizeof sets, 3);
+    return rtt_check(file, length, RTT_NO_WITHDRAWALS, RTT_NO_WITHDRAWALS_LENGTH, rtt_role(OFFICE, RELEASE), people, minute,
+                     credential, sizeof credential, first, sizeof first, second, sizeof second, sets, sizeof sets, 3);
 }
 
 static void print(const char *question, uint64_t reply)
@@ -32,7 +32,7 @@ static void print(const char *question, uint64_t reply)
 
 static void ask(const char *question, const uint8_t *file, size_t length, uint32_t people, uint32_t minute)
 {
-    int may = rtt_may_release(file, length, rtt_role(OFFICE, RELEASE), people, minute);
+    int may = rtt_may_release(file, length, RTT_NO_WITHDRAWALS, RTT_NO_WITHDRAWALS_LENGTH, rtt_role(OFFICE, RELEASE), people, minute);
     printf("%s: %s\n", question, may ? "may release" : "may not release");
 }
 

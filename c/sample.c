@@ -1,5 +1,6 @@
 /* Lists the ends of document 01's set P and completes it, with the minutes of each membership; asks for a proof of case K1 (0.1 {1,2} at minute 15)
-   and checks it; then at minute 19, after the last one that has a proof, and a file that lacks a byte. Prints what it got. */
+   and checks it; then at minute 19, after the last one that has a proof, and a file that lacks a byte. Then serial 1 is withdrawn at minute 17: lists
+   the ends and completes again, and asks at 16 and 17. Prints what it got. */
 #include <inttypes.h>
 #include <stdio.h>
 
@@ -7,6 +8,11 @@
 #include "rtt.h"
 
 enum { L = 8 };
+
+/* The withdrawal list that the calls are lent, and one of one withdrawal: serial 1, minute 17. */
+static const uint8_t *withdrawals = RTT_NO_WITHDRAWALS;
+static size_t withdrawals_length = RTT_NO_WITHDRAWALS_LENGTH;
+static const uint8_t one_withdrawn[] = {1, 0,  1, 0, 0, 0,  17, 0, 0, 0};
 
 static int refused(const char *call, uint64_t reply)
 {
@@ -19,7 +25,7 @@ static int refused(const char *call, uint64_t reply)
 static void ends(const uint8_t *file, size_t length)
 {
     uint8_t list[RTT_ENDS_BYTES];
-    uint64_t count = rtt_ends(file, length, list, sizeof list);
+    uint64_t count = rtt_ends(file, length, withdrawals, withdrawals_length, list, sizeof list);
     if (refused("ends", count))
         return;
     printf("ends:");
@@ -31,7 +37,7 @@ static void ends(const uint8_t *file, size_t length)
 static void minutes(const uint8_t *file, size_t length, uint64_t spans)
 {
     uint8_t bounds[RTT_BOUNDS_BYTES];
-    uint64_t count = rtt_intervals(file, length, spans, bounds, sizeof bounds);
+    uint64_t count = rtt_intervals(file, length, withdrawals, withdrawals_length, spans, bounds, sizeof bounds);
     if (refused("intervals", count))
         return;
     for (size_t i = 0; i < count; i++)
@@ -42,7 +48,7 @@ static void minutes(const uint8_t *file, size_t length, uint64_t spans)
 static void complete(const uint8_t *file, size_t length)
 {
     uint8_t roles[4 * L], sets[4 * L], spans[8 * L];
-    uint64_t count = rtt_complete(file, length, roles, sizeof roles, sets, sizeof sets, spans, sizeof spans);
+    uint64_t count = rtt_complete(file, length, withdrawals, withdrawals_length, roles, sizeof roles, sets, sizeof sets, spans, sizeof spans);
     if (refused("complete", count))
         return;
     printf("complete: %" PRIu64 " memberships\n", count);
@@ -57,7 +63,7 @@ static void complete(const uint8_t *file, size_t length)
 static void prove(const uint8_t *file, size_t length, uint32_t role, uint32_t set, uint32_t minute)
 {
     uint8_t credential[4 * L], first[4 * L], second[4 * L], sets[4 * L];
-    uint64_t got = rtt_query(file, length, role, set, minute, credential, sizeof credential, first, sizeof first, second,
+    uint64_t got = rtt_query(file, length, withdrawals, withdrawals_length, role, set, minute, credential, sizeof credential, first, sizeof first, second,
                              sizeof second, sets, sizeof sets);
     if (refused("query", got))
         return;
@@ -65,8 +71,8 @@ static void prove(const uint8_t *file, size_t length, uint32_t role, uint32_t se
     for (size_t i = 0; i < rtt_steps(got); i++)
         printf("  %zu: credential %" PRIu32 " steps %" PRIu32 " %" PRIu32 " set %" PRIu32 "\n", i, rtt_entry32(credential, i),
                rtt_entry32(first, i), rtt_entry32(second, i), rtt_entry32(sets, i));
-    uint64_t level = rtt_check(file, length, role, set, minute, credential, sizeof credential, first, sizeof first, second,
-                               sizeof second, sets, sizeof sets, rtt_steps(got));
+    uint64_t level = rtt_check(file, length, withdrawals, withdrawals_length, role, set, minute, credential, sizeof credential, first, sizeof first,
+                               second, sizeof second, sets, sizeof sets, rtt_steps(got));
     if (!refused("check", level))
         printf("check: level %" PRIu64 "\n", level);
 }
@@ -78,5 +84,12 @@ int main(void)
     prove(P, sizeof P, rtt_role(0, 1), 1u << 1 | 1u << 2, 15);
     prove(P, sizeof P, rtt_role(0, 1), 1u << 1 | 1u << 2, 19);
     complete(P, sizeof P - 1);
+    printf("serial 1 withdrawn at minute 17\n");
+    withdrawals = one_withdrawn;
+    withdrawals_length = sizeof one_withdrawn;
+    ends(P, sizeof P);
+    complete(P, sizeof P);
+    prove(P, sizeof P, rtt_role(0, 1), 1u << 1 | 1u << 2, 16);
+    prove(P, sizeof P, rtt_role(0, 1), 1u << 1 | 1u << 2, 17);
     return 0;
 }

@@ -1,19 +1,20 @@
 /* Who may release this sheet, and when: RT^T_+ credentials with periods.
 
    Seven calls. Each takes the bytes of a credentials file (rtt(5)), rtt_forward those of an old one, and lists that the
-   caller lends, and replies with one 64-bit number. What a call replies and every byte that it leaves are proved, for
-   every input that keeps to "What the caller owes" below, against the definitions that the contracts in crates/rtt
-   cite. The inline functions after the calls are plain C, and tested; rtt_may_release, the last of them, is all that a
-   release needs.
+   caller lends, and replies with one 64-bit number. All but rtt_forward and rtt_back take a withdrawal list right after
+   the file: RTT_NO_WITHDRAWALS, where nothing is withdrawn. What a call replies and every byte that it leaves are
+   proved, for every input that keeps to "What the caller owes" below, against the definitions that the contracts in
+   crates/rtt cite. The inline functions after the calls are plain C, and tested; rtt_may_release, the last of them, is
+   all that a release needs.
 
    Lists
 
    A list is lent as bytes, lowest byte first: 4 bytes an entry, 8 in `spans`. rtt_entry32 and rtt_entry64 read entries.
    Every length counts bytes. All lists of one rtt_complete, rtt_query or rtt_check have the same number L of entries, 1
    to 1,024: 4 * L bytes, and 8 * L for `spans`. The list of rtt_ends and that of rtt_intervals have 256 bytes, no more
-   and no less; that of rtt_forward and that of rtt_back are as long as the file that is written. A role A.r is the
-   number A * 32 + r, which rtt_role makes; a set of entities has bit e for entity e; minutes are 0 to 4,294,967,294,
-   and rtt(5) recommends Unix time / 60.
+   and no less; that of rtt_forward and that of rtt_back are as long as the file that is written. The withdrawal list has
+   a form of its own, and is meant only where it is called so. A role A.r is the number A * 32 + r, which rtt_role makes;
+   a set of entities has bit e for entity e; minutes are 0 to 4,294,967,294, and rtt(5) recommends Unix time / 60.
 
    Signers
 
@@ -38,12 +39,40 @@
    be the same step. A step's level is 1 if it cites none, else one more than the highest level that it cites; a proof
    has the level of its last step.
 
+   Withdrawals
+
+   A withdrawal takes from one credential, which it names by its serial, all minutes from a given one on. A withdrawal
+   list is bytes, lowest byte first: a count of 2 bytes, 0 to 256, then so many serials of 4 bytes, then as many minutes
+   of 4 bytes. All serials stand before all minutes, and the first minute belongs to the first serial. It has
+   2 + 8 * count bytes, which rtt_withdrawals_length gives. The serials may have any order; each is that of a credential
+   of the file, and none comes twice. A position is no serial. rtt_entry32(withdrawals + 2, i) is serial i, and
+   rtt_entry32(withdrawals + 2, count + i) its minute.
+
+   The period of a credential whose serial is in the withdrawal list is cut to its minutes before the minute w that
+   belongs to the serial:
+
+     w <= from         no minutes and no ends are left. The credential keeps its position; a step that uses it is
+                       refused with 15
+     from < w <= to    from to w - 1 are left; w itself is not covered
+     w > to            nothing changes. w may be 4,294,967,295
+
+   Everything is judged on the cut periods: ends, spans, memberships, proofs and levels, and so refusals 8, 10, 13, 15
+   and the 11 of rtt_intervals. The same file with another withdrawal list is therefore like another file. Lend
+   rtt_complete, rtt_query and rtt_check the same withdrawal list, or they speak of different minutes: a proof that was
+   handed out with one may be refused with another. Lend rtt_ends and rtt_intervals the withdrawal list that
+   rtt_complete was lent: the numbers in `spans` count the ends that this one leaves.
+
+   rtt_forward and rtt_back take no withdrawal list, and cut nothing. A file that has over 64 ends may pass the other
+   calls with a withdrawal list that leaves 64 or fewer, and be refused by rtt_back with 8. The other way round, a cut
+   can bring an end that the file had not, so that a file that rtt_back passes may be refused here with 8.
+
    Ends and spans
 
-   A period of the file covers minute m when from <= m and m <= to. The ends of a file are the distinct from values and
-   to values plus one of its periods, ascending; end 0 is the lowest. Span i runs from end i up to, not including, end
-   i + 1. So n ends make n - 1 spans, and no ends make none. The last end can be 4,294,967,295, which is no minute.
-   rtt_ends writes the ends, rtt_intervals turns spans into minutes.
+   A period covers minute m when from <= m and m <= to, and m < w where its credential is withdrawn. The ends of a file
+   are the first minute of each period that covers any and the minute after its last, each number once, ascending; end 0
+   is the lowest. For a period that is not cut these are from and to + 1, for one that is they are from and w. Span i
+   runs from end i up to, not including, end i + 1. So n ends make n - 1 spans, and no ends make none. The last end can
+   be 4,294,967,295, which is no minute. rtt_ends writes the ends, rtt_intervals turns spans into minutes.
 
    Old files
 
@@ -88,7 +117,12 @@
         7    from is above to, or to is 4,294,967,295              credential  all but forward
         7    from is not below to, in an old file                  credential  forward
        17    its serial is zero or that of an earlier credential   credential  all but forward
-        8    the periods have over 64 ends                         0           all
+       20    the withdrawal list has under 2 bytes, a count above  0           all but forward, back
+             256, or a length that is not 2 + 8 * count
+       21    the withdrawal list has a serial twice, or one that   0           all but forward, back
+             is on no credential
+        8    the cut periods have over 64 ends                     0           all but forward, back
+        8    the periods have over 64 ends                         0           forward, back
        18    the list to write has another length than the         0           forward, back
              resulting file
        19    a serial is not its position plus one (the first      credential  back
@@ -116,9 +150,10 @@
      during the call.
    - A list that the call writes overlaps nothing else that the call is lent: no file is brought forward or back in
      place. What is only read may overlap.
-   - Threads may call at the same time. They may share the file and lists that all of them only read; a list that a call
-     writes is used by no other call.
-   - A pointer may be NULL if its length is 0. An empty file is refused with 1, empty lists with 9 or 18.
+   - Threads may call at the same time. They may share the file, the withdrawal list and lists that all of them only
+     read; a list that a call writes is used by no other call.
+   - A pointer may be NULL if its length is 0. An empty file is refused with 1, empty lists with 9 or 18, and with 20 a
+     withdrawal list without bytes, which RTT_NO_WITHDRAWALS is not.
    - No alignment is asked for.
    - Stack: see RTT_STACK. The calls use no heap, no files and no shared state.
    - x86-64 Linux, linked with librtt.a (-lrtt), which needs memcpy and memset and nothing else.  */
@@ -134,8 +169,8 @@ extern "C" {
 
 /* The version of this interface; the pkg-config file and the manual pages take it from here. The number is
    major * 10,000 + minor * 100 + patch. */
-#define RTT_VERSION "3.1.0"
-#define RTT_VERSION_NUMBER 30100
+#define RTT_VERSION "4.0.0"
+#define RTT_VERSION_NUMBER 40000
 
 /* Bytes of stack that are enough for any call, beside what the caller itself uses. Measured, no call takes more than
 
@@ -155,6 +190,17 @@ extern "C" {
 
 /* The bytes of the longest old file; likewise. */
 #define RTT_OLD_FILE_BYTES 4102
+
+/* The bytes of the longest withdrawal list, of 256 withdrawals; likewise. */
+#define RTT_WITHDRAWALS_BYTES 2050
+
+/* The withdrawal list of count 0, which withdraws nothing, and its bytes.
+
+   A caller of version 3 puts RTT_NO_WITHDRAWALS, RTT_NO_WITHDRAWALS_LENGTH after the file in rtt_complete, rtt_query,
+   rtt_check, rtt_ends, rtt_intervals and rtt_may_release, and gets the replies and the bytes that it got from version 3.
+   Every object that makes these calls has to be compiled anew: the linker does not see that they take more. */
+#define RTT_NO_WITHDRAWALS ((const uint8_t *)"\0")
+#define RTT_NO_WITHDRAWALS_LENGTH 2
 
 /* The most entries of a list. */
 #define RTT_ENTRIES 1024
@@ -190,20 +236,24 @@ enum rtt_refusal {
     RTT_OTHER_MEMBERSHIP = 16,
     RTT_WRONG_SERIAL = 17,
     RTT_WRONG_OUTPUT_LENGTH = 18,
-    RTT_SERIAL_OUT_OF_PLACE = 19
+    RTT_SERIAL_OUT_OF_PLACE = 19,
+    RTT_WRONG_WITHDRAWALS = 20,
+    RTT_WRONG_WITHDRAWN_SERIAL = 21
 };
 
 /* Completes the table of the file: every membership that is valid at one minute or more, with all spans in which it is.
 
-   file    the bytes of a credentials file, read
-   roles   4 bytes an entry, written
-   sets    4 bytes an entry, written
-   spans   8 bytes an entry, written; bit i stands for span i
+   file          the bytes of a credentials file, read
+   withdrawals   the bytes of a withdrawal list, read
+   roles         4 bytes an entry, written
+   sets          4 bytes an entry, written
+   spans         8 bytes an entry, written; bit i stands for span i
 
    Returns the count of memberships. Entry i of the lists is the i-th membership, ascending by role, then by set; every
-   entry after the last is zero. Refuses with 1 to 8 and 17, 9 and 10.  */
+   entry after the last is zero. Refuses with 1 to 10, 17, 20 and 21.  */
 RTT_MUST_USE
 uint64_t rtt_complete(const uint8_t *file, size_t file_length,
+                      const uint8_t *withdrawals, size_t withdrawals_length,
                       uint8_t *roles, size_t roles_length,
                       uint8_t *sets, size_t sets_length,
                       uint8_t *spans, size_t spans_length);
@@ -211,14 +261,16 @@ uint64_t rtt_complete(const uint8_t *file, size_t file_length,
 /* Hands out a proof that the set is a member of the role at the minute, of the least level that any such proof has.
 
    file                              the bytes of a credentials file, read
+   withdrawals                       the bytes of a withdrawal list, read
    role, set, minute                 the membership, and when it is to hold
    credential, first, second, sets   4 bytes an entry, written: the words of the proof's steps
 
    Returns steps + level * 65,536 (rtt_steps, rtt_level). Entry i is step i; the last step shows the queried membership;
    no membership is shown twice, and every step is one that the last rests on; every entry after the last is zero.
-   Refuses with 1 to 8 and 17, 9, 11, 12, 10 and 13.  */
+   Refuses with 1 to 13, 17, 20 and 21.  */
 RTT_MUST_USE
 uint64_t rtt_query(const uint8_t *file, size_t file_length,
+                   const uint8_t *withdrawals, size_t withdrawals_length,
                    uint32_t role, uint32_t set, uint32_t minute,
                    uint8_t *credential, size_t credential_length,
                    uint8_t *first, size_t first_length,
@@ -229,14 +281,16 @@ uint64_t rtt_query(const uint8_t *file, size_t file_length,
    reads no entry past the step count.
 
    file                              the bytes of a credentials file, read
+   withdrawals                       the bytes of a withdrawal list, read
    role, set, minute                 the membership, and when it is to hold
    credential, first, second, sets   4 bytes an entry, read: the words of the proof's steps
    steps                             how many steps the proof has, 1 to L; further entries may hold anything
 
-   Returns the proof's level as it is, without steps: rtt_level is not for this reply. Refuses with 1 to 8 and 17,
-   9, 11, 12 and 14 to 16.  */
+   Returns the proof's level as it is, without steps: rtt_level is not for this reply. Refuses with 1 to 9, 11, 12, 14
+   to 17, 20 and 21.  */
 RTT_MUST_USE
 uint64_t rtt_check(const uint8_t *file, size_t file_length,
+                   const uint8_t *withdrawals, size_t withdrawals_length,
                    uint32_t role, uint32_t set, uint32_t minute,
                    const uint8_t *credential, size_t credential_length,
                    const uint8_t *first, size_t first_length,
@@ -246,26 +300,30 @@ uint64_t rtt_check(const uint8_t *file, size_t file_length,
 
 /* Lists the ends of the file.
 
-   file   the bytes of a credentials file, read
-   ends   RTT_ENDS_BYTES bytes, 4 an entry, written
+   file          the bytes of a credentials file, read
+   withdrawals   the bytes of a withdrawal list, read
+   ends          RTT_ENDS_BYTES bytes, 4 an entry, written
 
    Returns the count of ends, at most 64. Entry i is end i, ascending; every entry after the last is zero. Refuses with
-   1 to 8 and 17, and 9.  */
+   1 to 9, 17, 20 and 21.  */
 RTT_MUST_USE
 uint64_t rtt_ends(const uint8_t *file, size_t file_length,
+                  const uint8_t *withdrawals, size_t withdrawals_length,
                   uint8_t *ends, size_t ends_length);
 
 /* Turns spans of the file, such as those of a membership, into the intervals of minutes that they cover.
 
-   file     the bytes of a credentials file, read
-   spans    bit i stands for span i, as in the list that rtt_complete writes
-   bounds   RTT_BOUNDS_BYTES bytes, 4 an entry, written: entries 2 * i and 2 * i + 1 are from and to of interval i,
-            which covers minute m when from <= m and m < to: unlike a period of the file, it does not cover `to`
+   file          the bytes of a credentials file, read
+   withdrawals   the bytes of a withdrawal list, read: the one that rtt_complete was lent
+   spans         bit i stands for span i, as in the list that rtt_complete writes
+   bounds        RTT_BOUNDS_BYTES bytes, 4 an entry, written: entries 2 * i and 2 * i + 1 are from and to of interval i,
+                 which covers minute m when from <= m and m < to: unlike a period of the file, it does not cover `to`
 
    Returns the count of intervals, at most 32. They ascend and never touch, since spans that touch are joined; every
-   entry after the last interval is zero. Refuses with 1 to 8 and 17, 9 and 11.  */
+   entry after the last interval is zero. Refuses with 1 to 9, 11, 17, 20 and 21.  */
 RTT_MUST_USE
 uint64_t rtt_intervals(const uint8_t *file, size_t file_length,
+                       const uint8_t *withdrawals, size_t withdrawals_length,
                        uint64_t spans,
                        uint8_t *bounds, size_t bounds_length);
 
@@ -305,6 +363,13 @@ static inline size_t rtt_back_length(size_t file_length)
     return file_length < 6 ? 0 : file_length > RTT_FILE_BYTES ? RTT_OLD_FILE_BYTES : 6 + (file_length - 6) / 20 * 16;
 }
 
+/* The bytes of a withdrawal list of this count, at most RTT_WITHDRAWALS_BYTES. For a count above 256 it is 0, and a
+   withdrawal list of 0 bytes is refused with 20. */
+static inline size_t rtt_withdrawals_length(size_t count)
+{
+    return count > 256 ? 0 : 2 + 8 * count;
+}
+
 /* A reply taken apart. rtt_ok is 1 for a success and 0 for a refusal. rtt_number and rtt_place are those of a refusal,
    and 0 for a success. rtt_steps and rtt_level are for the reply of rtt_query alone: those of its proof, and 0 for a
    refusal. */
@@ -314,7 +379,7 @@ RTT_MUST_USE static inline uint32_t rtt_place(uint64_t reply) { return rtt_ok(re
 RTT_MUST_USE static inline uint32_t rtt_steps(uint64_t reply) { return rtt_ok(reply) ? (uint32_t)reply & 65535 : 0; }
 RTT_MUST_USE static inline uint32_t rtt_level(uint64_t reply) { return rtt_ok(reply) ? (uint32_t)reply >> 16 : 0; }
 
-/* A refusal's number, which is rtt_number(reply), in words: a constant string. 0 is "no refusal"; any number above 19,
+/* A refusal's number, which is rtt_number(reply), in words: a constant string. 0 is "no refusal"; any number above 21,
    such as the whole reply of a refusal, is "not the number of a refusal". */
 static inline const char *rtt_refusal_text(uint64_t number)
 {
@@ -339,6 +404,8 @@ static inline const char *rtt_refusal_text(uint64_t number)
     case RTT_WRONG_SERIAL: return "a credential's serial is zero or that of an earlier credential";
     case RTT_WRONG_OUTPUT_LENGTH: return "the list to write has another length than the resulting file";
     case RTT_SERIAL_OUT_OF_PLACE: return "a credential's serial is not its position plus one";
+    case RTT_WRONG_WITHDRAWALS: return "the withdrawal list has no count, a count above 256, or another length than its count takes";
+    case RTT_WRONG_WITHDRAWN_SERIAL: return "the withdrawal list has a serial twice or one that is on no credential";
     default: return "not the number of a refusal";
     }
 }
@@ -363,21 +430,25 @@ static inline uint64_t rtt_entry64(const uint8_t *list, size_t i)
 }
 
 /* May this set of people release the sheet at this minute? 1 only if there is a proof that the set is a member of the
-   role at the minute, and the check of that proof, for the same file, role, set and minute, gives the query's level.
-   Else 0, also where the file or the request is refused, and where there are more than 1,024 memberships at that minute
-   (10); rtt_query says why. The result is no reply, and rtt_ok is not for it.
+   role at the minute, and the check of that proof, for the same file, withdrawal list, role, set and minute, gives the
+   query's level. Else 0, also where the file, the withdrawal list or the request is refused, and where there are more
+   than 1,024 memberships at that minute (10); rtt_query says why. The result is no reply, and rtt_ok is not for it.
 
    Its four lists take 4 * 4,096 = 16,384 bytes of its own stack, beside the RTT_STACK that its calls may take. */
 RTT_MUST_USE
-static inline int rtt_may_release(const uint8_t *file, size_t file_length, uint32_t role, uint32_t set, uint32_t minute)
+static inline int rtt_may_release(const uint8_t *file, size_t file_length,
+                                  const uint8_t *withdrawals, size_t withdrawals_length,
+                                  uint32_t role, uint32_t set, uint32_t minute)
 {
     uint8_t credential[4 * RTT_ENTRIES], first[4 * RTT_ENTRIES], second[4 * RTT_ENTRIES], sets[4 * RTT_ENTRIES];
-    uint64_t checked, got = rtt_query(file, file_length, role, set, minute, credential, sizeof credential,
-                                      first, sizeof first, second, sizeof second, sets, sizeof sets);
+    uint64_t checked, got = rtt_query(file, file_length, withdrawals, withdrawals_length, role, set, minute,
+                                      credential, sizeof credential, first, sizeof first,
+                                      second, sizeof second, sets, sizeof sets);
     if (!rtt_ok(got))
         return 0;
-    checked = rtt_check(file, file_length, role, set, minute, credential, sizeof credential,
-                        first, sizeof first, second, sizeof second, sets, sizeof sets, rtt_steps(got));
+    checked = rtt_check(file, file_length, withdrawals, withdrawals_length, role, set, minute,
+                        credential, sizeof credential, first, sizeof first,
+                        second, sizeof second, sets, sizeof sets, rtt_steps(got));
     return rtt_ok(checked) && checked == rtt_level(got);
 }
 

@@ -37,6 +37,13 @@ impl Slice {
     }
 }
 
+/// A file and a withdrawal list, as five of the calls are lent them.
+#[derive(Clone, Copy)]
+pub struct Given {
+    pub file: Slice,
+    pub withdrawals: Slice,
+}
+
 #[derive(Clone, Copy, PartialEq, Eq, Debug)]
 pub enum Call {
     Complete,
@@ -66,11 +73,11 @@ impl Call {
 
 pub trait Calls {
     fn has(&self, call: Call) -> bool;
-    fn complete(&self, file: Slice, lists: [Slice; 3]) -> u64;
-    fn query(&self, file: Slice, q: Question, lists: [Slice; 4]) -> u64;
-    fn check(&self, file: Slice, q: Question, lists: [Slice; 4], count: u64) -> u64;
-    fn ends(&self, file: Slice, list: Slice) -> u64;
-    fn intervals(&self, file: Slice, spans: u64, list: Slice) -> u64;
+    fn complete(&self, given: Given, lists: [Slice; 3]) -> u64;
+    fn query(&self, given: Given, q: Question, lists: [Slice; 4]) -> u64;
+    fn check(&self, given: Given, q: Question, lists: [Slice; 4], count: u64) -> u64;
+    fn ends(&self, given: Given, list: Slice) -> u64;
+    fn intervals(&self, given: Given, spans: u64, list: Slice) -> u64;
     fn forward(&self, old: Slice, list: Slice) -> u64;
     fn back(&self, file: Slice, list: Slice) -> u64;
 }
@@ -84,6 +91,8 @@ mod c {
         pub fn rtt_complete(
             file: *const u8,
             file_length: usize,
+            withdrawals: *const u8,
+            withdrawals_length: usize,
             roles: *mut u8,
             roles_length: usize,
             sets: *mut u8,
@@ -94,6 +103,8 @@ mod c {
         pub fn rtt_query(
             file: *const u8,
             file_length: usize,
+            withdrawals: *const u8,
+            withdrawals_length: usize,
             role: u32,
             set: u32,
             minute: u32,
@@ -109,6 +120,8 @@ mod c {
         pub fn rtt_check(
             file: *const u8,
             file_length: usize,
+            withdrawals: *const u8,
+            withdrawals_length: usize,
             role: u32,
             set: u32,
             minute: u32,
@@ -122,8 +135,23 @@ mod c {
             sets_length: usize,
             steps: u64,
         ) -> u64;
-        pub fn rtt_ends(file: *const u8, file_length: usize, ends: *mut u8, ends_length: usize) -> u64;
-        pub fn rtt_intervals(file: *const u8, file_length: usize, spans: u64, bounds: *mut u8, bounds_length: usize) -> u64;
+        pub fn rtt_ends(
+            file: *const u8,
+            file_length: usize,
+            withdrawals: *const u8,
+            withdrawals_length: usize,
+            ends: *mut u8,
+            ends_length: usize,
+        ) -> u64;
+        pub fn rtt_intervals(
+            file: *const u8,
+            file_length: usize,
+            withdrawals: *const u8,
+            withdrawals_length: usize,
+            spans: u64,
+            bounds: *mut u8,
+            bounds_length: usize,
+        ) -> u64;
         pub fn rtt_forward(old: *const u8, old_length: usize, file: *mut u8, file_length: usize) -> u64;
         pub fn rtt_back(file: *const u8, file_length: usize, old: *mut u8, old_length: usize) -> u64;
     }
@@ -143,48 +171,52 @@ impl Calls for Library {
         }
     }
 
-    fn complete(&self, f: Slice, [a, b, c]: [Slice; 3]) -> u64 {
+    fn complete(&self, Given { file: f, withdrawals: w }: Given, [a, b, c]: [Slice; 3]) -> u64 {
         #[cfg(rtt_complete)]
         // SAFETY: the slices are lent as the interface asks, and apart from each other.
-        return unsafe { c::rtt_complete(f.start, f.length, a.start, a.length, b.start, b.length, c.start, c.length) };
+        return unsafe { c::rtt_complete(f.start, f.length, w.start, w.length, a.start, a.length, b.start, b.length, c.start, c.length) };
         #[cfg(not(rtt_complete))]
         unreachable!("not in the archive")
     }
 
-    fn query(&self, f: Slice, q: Question, [a, b, c, d]: [Slice; 4]) -> u64 {
+    fn query(&self, Given { file: f, withdrawals: w }: Given, q: Question, [a, b, c, d]: [Slice; 4]) -> u64 {
         #[cfg(rtt_query)]
         // SAFETY: as for completing.
         return unsafe {
-            c::rtt_query(f.start, f.length, q.role, q.set, q.minute, a.start, a.length, b.start, b.length, c.start, c.length, d.start, d.length)
+            c::rtt_query(
+                f.start, f.length, w.start, w.length, q.role, q.set, q.minute, a.start, a.length, b.start, b.length, c.start, c.length, d.start,
+                d.length,
+            )
         };
         #[cfg(not(rtt_query))]
         unreachable!("not in the archive")
     }
 
-    fn check(&self, f: Slice, q: Question, [a, b, c, d]: [Slice; 4], count: u64) -> u64 {
+    fn check(&self, Given { file: f, withdrawals: w }: Given, q: Question, [a, b, c, d]: [Slice; 4], count: u64) -> u64 {
         #[cfg(rtt_check)]
         // SAFETY: as for completing.
         return unsafe {
             c::rtt_check(
-                f.start, f.length, q.role, q.set, q.minute, a.start, a.length, b.start, b.length, c.start, c.length, d.start, d.length, count,
+                f.start, f.length, w.start, w.length, q.role, q.set, q.minute, a.start, a.length, b.start, b.length, c.start, c.length, d.start,
+                d.length, count,
             )
         };
         #[cfg(not(rtt_check))]
         unreachable!("not in the archive")
     }
 
-    fn ends(&self, f: Slice, list: Slice) -> u64 {
+    fn ends(&self, Given { file: f, withdrawals: w }: Given, list: Slice) -> u64 {
         #[cfg(rtt_ends)]
         // SAFETY: as for completing.
-        return unsafe { c::rtt_ends(f.start, f.length, list.start, list.length) };
+        return unsafe { c::rtt_ends(f.start, f.length, w.start, w.length, list.start, list.length) };
         #[cfg(not(rtt_ends))]
         unreachable!("not in the archive")
     }
 
-    fn intervals(&self, f: Slice, spans: u64, list: Slice) -> u64 {
+    fn intervals(&self, Given { file: f, withdrawals: w }: Given, spans: u64, list: Slice) -> u64 {
         #[cfg(rtt_intervals)]
         // SAFETY: as for completing.
-        return unsafe { c::rtt_intervals(f.start, f.length, spans, list.start, list.length) };
+        return unsafe { c::rtt_intervals(f.start, f.length, w.start, w.length, spans, list.start, list.length) };
         #[cfg(not(rtt_intervals))]
         unreachable!("not in the archive")
     }
@@ -211,13 +243,19 @@ pub struct Second {
     pub rules: Rules,
 }
 
+impl Second {
+    fn known(&self, given: Given) -> Known {
+        Known::new(self.rules, &given.file.all(), &given.withdrawals.all())
+    }
+}
+
 impl Calls for Second {
     fn has(&self, _: Call) -> bool {
         true
     }
 
-    fn complete(&self, file: Slice, lists: [Slice; 3]) -> u64 {
-        let (reply, after) = Known::new(self.rules, &file.all()).complete(lists.map(|list| list.length));
+    fn complete(&self, given: Given, lists: [Slice; 3]) -> u64 {
+        let (reply, after) = self.known(given).complete(lists.map(|list| list.length));
         match after {
             After::Unchanged => {}
             After::Zero => zero(&lists),
@@ -226,8 +264,8 @@ impl Calls for Second {
         reply
     }
 
-    fn query(&self, file: Slice, q: Question, lists: [Slice; 4]) -> u64 {
-        let known = Known::new(self.rules, &file.all());
+    fn query(&self, given: Given, q: Question, lists: [Slice; 4]) -> u64 {
+        let known = self.known(given);
         match known.query(q, lists.map(|list| list.length)) {
             Err((refusal, after)) => {
                 if after == After::Zero {
@@ -245,20 +283,20 @@ impl Calls for Second {
         }
     }
 
-    fn check(&self, file: Slice, q: Question, lists: [Slice; 4], count: u64) -> u64 {
+    fn check(&self, given: Given, q: Question, lists: [Slice; 4], count: u64) -> u64 {
         let first = |count: usize| {
             let bytes = lists.map(|list| list.first(4 * count));
             steps(&[&bytes[0], &bytes[1], &bytes[2], &bytes[3]], count)
         };
-        Known::new(self.rules, &file.all()).check(q, lists.map(|list| list.length), count, first)
+        self.known(given).check(q, lists.map(|list| list.length), count, first)
     }
 
-    fn ends(&self, file: Slice, list: Slice) -> u64 {
-        written(Known::new(self.rules, &file.all()).ends(list.length), list)
+    fn ends(&self, given: Given, list: Slice) -> u64 {
+        written(self.known(given).ends(list.length), list)
     }
 
-    fn intervals(&self, file: Slice, spans: u64, list: Slice) -> u64 {
-        written(Known::new(self.rules, &file.all()).intervals(spans, list.length), list)
+    fn intervals(&self, given: Given, spans: u64, list: Slice) -> u64 {
+        written(self.known(given).intervals(spans, list.length), list)
     }
 
     fn forward(&self, old: Slice, list: Slice) -> u64 {

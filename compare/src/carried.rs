@@ -7,6 +7,7 @@ use crate::random::Random;
 use crate::reference::ends::BYTES;
 use crate::reference::known::Known;
 use crate::reference::old::OLD;
+use crate::reference::withdrawals::NONE;
 use crate::reference::MOST;
 
 /// How many credentials the head gives; 0 without a head, 256 for more.
@@ -80,12 +81,12 @@ pub fn back_and_there(c: &mut Comparison, random: &mut Random, file: &[u8]) -> C
 /// The same memberships at the same minutes: the table that completing writes for the new file, and its ends, are those that the
 /// second implementation finds in the old file by the old reading.
 fn same_memberships(c: &mut Comparison, random: &mut Random, old: &[u8], file: &[u8]) -> Compared<()> {
-    let known = &Known::new(OLD, old);
+    let known = &Known::new(OLD, old, NONE);
     let fits = known.table().map_or(MOST, |table| table.len());
     let length = random.choose(&[fits, fits.saturating_sub(1), fits + 1, MOST]).clamp(1, MOST);
     let told = |Failure(what)| Failure(format!("{what}\nwhere the file is that of the old file {}", hex(old)));
     c.complete(known, completed(file, length, random.next())).map_err(told)?;
-    c.ends(known, Ends { file, length: BYTES, fill: random.next() }).map_err(told)
+    c.ends(known, Ends { source: file.into(), length: BYTES, fill: random.next() }).map_err(told)
 }
 
 /// A file brought back, and its old form brought forward, with the way there and back of each; once in so many times the same memberships;

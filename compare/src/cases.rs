@@ -6,13 +6,15 @@ use crate::carried::{carried_old, opened};
 use crate::explore::{completed, handed_out, queried};
 use crate::files::{Draft, Period};
 use crate::input::{Ends, Forward, Intervals};
-use crate::judge::{Compared, Comparison, Failure};
+use crate::judge::{known, Compared, Comparison, Failure};
 use crate::random::Random;
 use crate::reference::ends::{listed, BYTES};
 use crate::reference::known::{Known, Question};
 use crate::reference::old::OLD;
 use crate::reference::reading::word;
-use crate::reference::{Refusal, RIGHT};
+use crate::reference::withdrawals::NONE;
+use crate::reference::Refusal;
+use crate::withdrawn_cases;
 
 /// The bytes of set P as document 01 prints them, with a serial after each statement: 66.
 const P: &str =
@@ -25,12 +27,12 @@ const OLD_P: &str = "030002000300 0000000100000000 0000000200000000 050001000000
 const OLD_P_FORWARD: &str =
     "030002000300 0000000100000000 01000000 0000000200000000 02000000 0500010000000000 03000000 0A00000013000000 0F0000001D000000 0000000011000000";
 
-fn bytes(text: &str) -> Vec<u8> {
+pub fn bytes(text: &str) -> Vec<u8> {
     let digits: String = text.split(' ').collect();
     (0..digits.len()).step_by(2).map(|at| u8::from_str_radix(&digits[at..at + 2], 16).unwrap()).collect()
 }
 
-fn set_p() -> Vec<u8> {
+pub fn set_p() -> Vec<u8> {
     bytes(P)
 }
 
@@ -42,7 +44,7 @@ fn set_p_union() -> Vec<u8> {
 }
 
 /// A table's rows: role, set, spans.
-type Rows = Vec<(u32, u32, u64)>;
+pub type Rows = Vec<(u32, u32, u64)>;
 
 fn k7() -> Vec<u8> {
     let mut draft = Draft::new(2, 1);
@@ -122,6 +124,7 @@ pub fn run(c: &mut Comparison, random: &mut Random, count: usize) -> Compared<()
         }
         ends_of_cases(c, random)?;
         old_cases(c, random)?;
+        withdrawn_cases::run(c, random)?;
     }
     Ok(())
 }
@@ -140,7 +143,7 @@ fn old_cases(c: &mut Comparison, random: &Random) -> Compared<()> {
         ("K8, old", old_k8.without_serials(), vec![(0, 4, 3), (32, 4, 3)], &[0, 5, 10]),
         ("K11, old", Draft::new(1, 1).without_serials(), vec![], &[]),
     ] {
-        let known = Known::new(OLD, &old);
+        let known = Known::new(OLD, &old, NONE);
         expect(known.ends(BYTES) == Ok((ends.len() as u64, listed(ends.iter().copied()))), name)?;
         let table = known.table().into_iter().flatten().map(|(&(role, set), &spans)| (role, set, spans));
         expect(table.collect::<Rows>() == rows, name)?;
@@ -164,17 +167,17 @@ fn ends_of_cases(c: &mut Comparison, random: &Random) -> Compared<()> {
         ("K8, ends", k8(), &[0, 5, 6, 11], k8_intervals),
         ("K11, ends", Draft::new(1, 1).bytes(), &[], &[(0, &[])]),
     ] {
-        let known = Known::new(RIGHT, &file);
+        let known = known(&file);
         expect(known.ends(BYTES) == Ok((ends.len() as u64, listed(ends.iter().copied()))), name)?;
-        c.ends(&known, Ends { file: &file, length: BYTES, fill: random.next() })?;
+        c.ends(&known, Ends { source: (&file).into(), length: BYTES, fill: random.next() })?;
         for &(spans, bounds) in intervals {
             let stated = (bounds.len() as u64 / 2, listed(bounds.iter().copied()));
             expect(known.intervals(spans, BYTES) == Ok(stated), name)?;
-            c.intervals(&known, Intervals { file: &file, spans, length: BYTES, fill: random.next() })?;
+            c.intervals(&known, Intervals { source: (&file).into(), spans, length: BYTES, fill: random.next() })?;
         }
         let beyond = 1 << ends.len().saturating_sub(1);
         expect(known.intervals(beyond, BYTES) == Err(Refusal { number: 11, place: 0 }), name)?;
-        c.intervals(&known, Intervals { file: &file, spans: beyond, length: BYTES, fill: random.next() })?;
+        c.intervals(&known, Intervals { source: (&file).into(), spans: beyond, length: BYTES, fill: random.next() })?;
     }
     Ok(())
 }
@@ -191,7 +194,7 @@ fn rows_of(c: &mut Comparison, random: &mut Random, file: &[u8]) -> Compared<Opt
     Ok(Some((0..written.count).map(row).collect()))
 }
 
-fn expect(holds: bool, name: &str) -> Compared<()> {
+pub fn expect(holds: bool, name: &str) -> Compared<()> {
     match holds {
         true => Ok(()),
         false => Err(Failure(format!("case {name} is not as the documents state"))),

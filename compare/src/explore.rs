@@ -1,7 +1,7 @@
-//! What is compared on one file.
+//! What is compared on one file, or on a file and a withdrawal list.
 
 use crate::calls::Call;
-use crate::input::{words, Check, Complete, Ends, Input, Intervals, Query};
+use crate::input::{words, Check, Complete, Ends, Input, Intervals, Query, Source};
 use crate::judge::{Compared, Comparison, Proof, Written};
 use crate::proofs;
 use crate::random::Random;
@@ -9,12 +9,17 @@ use crate::reference::checking::Step;
 use crate::reference::ends::BYTES;
 use crate::reference::known::{Known, Question};
 use crate::reference::meaning::Members;
-use crate::reference::reading::{word, File};
+use crate::reference::reading::{word, Credential, File};
 use crate::reference::{role, Membership, MOST};
+use std::collections::BTreeSet;
 
-/// Every minute at, before and after each end.
+/// Every minute at, before and after each end; and each withdrawal and each end that the file has without it.
 pub fn minutes(file: &File) -> Vec<u32> {
-    let mut minutes: Vec<u32> = file.ends.iter().flat_map(|&end| [end.saturating_sub(1), end, end.saturating_add(1)]).collect();
+    let near = |&end: &u32| [end.saturating_sub(1), end, end.saturating_add(1)];
+    let mut minutes: Vec<u32> = file.ends.iter().flat_map(near).collect();
+    let gone = |c: &Credential| c.withdrawn.map(|minute| [c.from, c.to + 1, minute]);
+    let gone: BTreeSet<u32> = file.credentials.iter().filter_map(gone).flatten().filter(|end| !file.ends.contains(end)).collect();
+    minutes.extend(gone.iter().flat_map(near));
     minutes.extend(minutes.is_empty().then_some(0));
     minutes.dedup();
     minutes
@@ -28,28 +33,29 @@ fn lengths(random: &mut Random, count: usize) -> Vec<usize> {
     lengths
 }
 
-pub fn completed<'a>(file: &'a [u8], length: usize, fill: u64) -> Complete<'a> {
-    Complete { file, lengths: [4 * length, 4 * length, 8 * length], fill }
+pub fn completed<'a>(source: impl Into<Source<'a>>, length: usize, fill: u64) -> Complete<'a> {
+    Complete { source: source.into(), lengths: [4 * length, 4 * length, 8 * length], fill }
 }
 
-pub fn queried<'a>(file: &'a [u8], question: Question, length: usize, fill: u64) -> Query<'a> {
-    Query { file, question, lengths: [4 * length; 4], fill }
+pub fn queried<'a>(source: impl Into<Source<'a>>, question: Question, length: usize, fill: u64) -> Query<'a> {
+    Query { source: source.into(), question, lengths: [4 * length; 4], fill }
 }
 
 /// Steps in lists of a length; garbage after the steps.
-pub fn checked<'a>(file: &'a [u8], question: Question, steps: &[Step], length: usize, fill: u64) -> Check<'a> {
+pub fn checked<'a>(source: impl Into<Source<'a>>, question: Question, steps: &[Step], length: usize, fill: u64) -> Check<'a> {
     let (lists, lengths) = (words(steps), [4 * length; 4]);
-    Check { file, question, lists, lengths, count: steps.len() as u64, hidden: false, fill }
+    Check { source: source.into(), question, lists, lengths, count: steps.len() as u64, hidden: false, fill }
 }
 
 /// Completing at all the lengths that matter for this file.
-pub fn complete_all(c: &mut Comparison, random: &mut Random, file: &[u8], known: &Known) -> Compared<()> {
+pub fn complete_all<'a>(c: &mut Comparison, random: &mut Random, source: impl Into<Source<'a>>, known: &Known) -> Compared<()> {
+    let source = source.into();
     let count = known.table().map_or(MOST, |table| table.len());
     for length in lengths(random, count) {
-        c.complete(known, completed(file, length, random.next()))?;
+        c.complete(known, completed(source, length, random.next()))?;
     }
-    c.complete(known, completed(file, MOST, random.next()))?;
-    ends_and_intervals(c, random, file, known)
+    c.complete(known, completed(source, MOST, random.next()))?;
+    ends_and_intervals(c, random, source, known)
 }
 
 /// Lengths of the list that is lent for the ends and for the intervals.
@@ -69,21 +75,21 @@ fn span_numbers(random: &mut Random, known: &Known) -> Vec<u64> {
 
 /// The ends in lists of all these lengths; the intervals of span numbers, each in 256 bytes and in one of these lengths.
 /// The random numbers stay as they are.
-pub fn ends_and_intervals(c: &mut Comparison, random: &Random, file: &[u8], known: &Known) -> Compared<()> {
-    let random = &mut random.clone();
+pub fn ends_and_intervals<'a>(c: &mut Comparison, random: &Random, source: impl Into<Source<'a>>, known: &Known) -> Compared<()> {
+    let (source, random) = (source.into(), &mut random.clone());
     for length in LISTS {
-        c.ends(known, Ends { file, length, fill: random.next() })?;
+        c.ends(known, Ends { source, length, fill: random.next() })?;
     }
     for spans in span_numbers(random, known) {
         for length in [BYTES, random.choose(&LISTS)] {
-            c.intervals(known, Intervals { file, spans, length, fill: random.next() })?;
+            c.intervals(known, Intervals { source, spans, length, fill: random.next() })?;
         }
     }
     Ok(())
 }
 
 /// A membership at the minute, or at another, or any.
-fn some_question(random: &mut Random, file: &File, known: &Known, minute: u32) -> Question {
+pub fn some_question(random: &mut Random, file: &File, known: &Known, minute: u32) -> Question {
     let any = |random: &mut Random| {
         let set = random.next() as u32 >> (32 - file.entities);
         (role(random.below(file.entities as usize) as u32, random.below(file.names as usize) as u32), set.max(1))
@@ -99,7 +105,15 @@ fn some_question(random: &mut Random, file: &File, known: &Known, minute: u32) -
 
 /// Some questions of an accepted file, each with a length that just fits, just doesn't, or is the greatest; each proof
 /// is checked as it was handed out, and in other forms.
-pub fn query_some(c: &mut Comparison, random: &mut Random, file: &[u8], known: &Known, questions: usize, forms: usize) -> Compared<()> {
+pub fn query_some<'a>(
+    c: &mut Comparison,
+    random: &mut Random,
+    source: impl Into<Source<'a>>,
+    known: &Known,
+    questions: usize,
+    forms: usize,
+) -> Compared<()> {
+    let source = source.into();
     let Ok(read) = &known.read else { return Ok(()) };
     let minutes = minutes(read);
     for _ in 0..questions {
@@ -114,10 +128,10 @@ pub fn query_some(c: &mut Comparison, random: &mut Random, file: &[u8], known: &
         };
         let lengths = lengths(random, count);
         let length = if random.once_in(2) { MOST } else { random.choose(&lengths) };
-        if let Some(proof) = c.query(known, queried(file, question, length, random.next()))? {
-            handed_out(c, file, known, question, &proof, length, random.next())?;
+        if let Some(proof) = c.query(known, queried(source, question, length, random.next()))? {
+            handed_out(c, source, known, question, &proof, length, random.next())?;
             for _ in 0..forms {
-                other_form(c, random, file, known, question, &proof.steps)?;
+                other_form(c, random, source, known, question, &proof.steps)?;
             }
         }
     }
@@ -125,8 +139,16 @@ pub fn query_some(c: &mut Comparison, random: &mut Random, file: &[u8], known: &
 }
 
 /// A proof given to the checker as querying left it: zeros after the steps.
-pub fn handed_out(c: &mut Comparison, file: &[u8], known: &Known, question: Question, proof: &Proof, length: usize, fill: u64) -> Compared<()> {
-    let mut check = checked(file, question, &proof.steps, length, fill);
+pub fn handed_out<'a>(
+    c: &mut Comparison,
+    source: impl Into<Source<'a>>,
+    known: &Known,
+    question: Question,
+    proof: &Proof,
+    length: usize,
+    fill: u64,
+) -> Compared<()> {
+    let mut check = checked(source, question, &proof.steps, length, fill);
     check.lists.iter_mut().for_each(|list| list.resize(4 * length, 0));
     let input = Input::Check(check.clone());
     let reply = c.check(known, check)?;
@@ -137,7 +159,7 @@ pub fn handed_out(c: &mut Comparison, file: &[u8], known: &Known, question: Ques
 }
 
 /// The proof changed at random; a change may keep the rules.
-fn other_form(c: &mut Comparison, random: &mut Random, bytes: &[u8], known: &Known, q: Question, steps: &[Step]) -> Compared<()> {
+fn other_form(c: &mut Comparison, random: &mut Random, source: Source, known: &Known, q: Question, steps: &[Step]) -> Compared<()> {
     let file = known.read.as_ref().unwrap();
     let steps = match random.below(8) {
         0 => proofs::with_idle(random, file, q.minute, steps, 4),
@@ -150,27 +172,35 @@ fn other_form(c: &mut Comparison, random: &mut Random, bytes: &[u8], known: &Kno
         }
         _ => proofs::some_word(random, file, steps),
     };
-    steps_checked(c, random, bytes, known, q, &steps)
+    steps_checked(c, random, source, known, q, &steps)
 }
 
 /// Steps checked in lists that just hold them or are longer, with what follows them garbage or unreadable.
-pub fn steps_checked(c: &mut Comparison, random: &mut Random, file: &[u8], known: &Known, q: Question, steps: &[Step]) -> Compared<()> {
+pub fn steps_checked<'a>(
+    c: &mut Comparison,
+    random: &mut Random,
+    source: impl Into<Source<'a>>,
+    known: &Known,
+    q: Question,
+    steps: &[Step],
+) -> Compared<()> {
     let longer = (steps.len() + random.below(9)).min(MOST).max(steps.len());
     let length = random.choose(&[steps.len(), longer, MOST.max(steps.len())]);
-    let mut check = checked(file, q, steps, length, random.next());
+    let mut check = checked(source, q, steps, length, random.next());
     check.hidden = steps.len() <= MOST && random.once_in(4);
     c.check(known, check).map(|_| ())
 }
 
 /// Demand 3 on one file: every role, every set and every minute at, before and after each end.
-pub fn joint(c: &mut Comparison, random: &mut Random, file: &[u8], known: &Known, length: usize) -> Compared<()> {
+pub fn joint<'a>(c: &mut Comparison, random: &mut Random, source: impl Into<Source<'a>>, known: &Known, length: usize) -> Compared<()> {
+    let source = source.into();
     let Ok(read) = &known.read else { return Ok(()) };
-    let Some(written) = joint_table(c, random, file, known, length)? else { return Ok(()) };
+    let Some(written) = joint_table(c, random, source, known, length)? else { return Ok(()) };
     for minute in minutes(read) {
         for role in (0..read.entities).flat_map(|issuer| (0..read.names).map(move |name| role(issuer, name))) {
             for set in 1..1 << read.entities {
                 let question = Question { role, set, minute };
-                let query = queried(file, question, length, random.next());
+                let query = queried(source, question, length, random.next());
                 let input = Input::Query(query.clone());
                 let proof = c.query(known, query)?;
                 if minute < u32::MAX && proof.is_some() != validity(read, &written, question) {
@@ -178,7 +208,7 @@ pub fn joint(c: &mut Comparison, random: &mut Random, file: &[u8], known: &Known
                     return Err(c.failure(&input, what));
                 }
                 if let Some(proof) = proof {
-                    handed_out(c, file, known, question, &proof, length, random.next())?;
+                    handed_out(c, source, known, question, &proof, length, random.next())?;
                 }
             }
         }
@@ -187,11 +217,11 @@ pub fn joint(c: &mut Comparison, random: &mut Random, file: &[u8], known: &Known
 }
 
 /// The table as completing wrote it; without the call, as the second implementation has it.
-fn joint_table(c: &mut Comparison, random: &mut Random, file: &[u8], known: &Known, length: usize) -> Compared<Option<Written>> {
+fn joint_table(c: &mut Comparison, random: &mut Random, source: Source, known: &Known, length: usize) -> Compared<Option<Written>> {
     use crate::reference::known::After::Holds;
     match (c.has(Call::Complete), known.complete([4 * length, 4 * length, 8 * length])) {
         (false, (count, Holds(lists))) => Ok(Some(Written { count: count as usize, lists })),
-        _ => c.complete(known, completed(file, length, random.next())),
+        _ => c.complete(known, completed(source, length, random.next())),
     }
 }
 

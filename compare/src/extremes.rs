@@ -6,6 +6,11 @@ use crate::reference::role;
 
 /// A file with exactly so many ends.
 pub fn with_ends(random: &mut Random, count: usize) -> Draft {
+    with_ends_and(random, count, &[0, 1, 20, 256])
+}
+
+/// The same with one of these numbers of credentials more than its ends need, up to 256 in all.
+pub fn with_ends_and(random: &mut Random, count: usize, more: &[usize]) -> Draft {
     let ends = ends(random, count);
     let (entities, names) = (random.within(2, 5) as u32, random.within(1, 3) as u32);
     let mut draft = Draft::new(entities, names);
@@ -14,7 +19,7 @@ pub fn with_ends(random: &mut Random, count: usize) -> Draft {
     random.shuffle(&mut order);
     let of_two = |a: u32, b: u32| between(a.min(b), a.max(b));
     let mut periods: Vec<Period> = order.chunks(2).map(|pair| of_two(pair[0], *pair.get(1).unwrap_or(&order[0]))).collect();
-    for _ in 0..random.choose(&[0, 1, 20, 256 - periods.len()]) {
+    for _ in 0..random.choose(more).min(256 - periods.len()) {
         periods.push(period(random, &ends));
     }
     random.shuffle(&mut periods);

@@ -3,19 +3,40 @@
 use crate::calls::Call;
 use crate::reference::checking::Step;
 use crate::reference::known::Question;
+use crate::reference::withdrawals::NONE;
 use std::fmt;
+
+/// The bytes of a file and of a withdrawal list.
+#[derive(Clone, Copy, Debug)]
+pub struct Source<'a> {
+    pub file: &'a [u8],
+    pub withdrawals: &'a [u8],
+}
+
+/// A file alone is given with the list of count 0.
+impl<'a> From<&'a [u8]> for Source<'a> {
+    fn from(file: &'a [u8]) -> Source<'a> {
+        Source { file, withdrawals: NONE }
+    }
+}
+
+impl<'a> From<&'a Vec<u8>> for Source<'a> {
+    fn from(file: &'a Vec<u8>) -> Source<'a> {
+        file.as_slice().into()
+    }
+}
 
 /// `fill` decides the garbage in the lists, the guard bytes and where the slices lie.
 #[derive(Clone, Debug)]
 pub struct Complete<'a> {
-    pub file: &'a [u8],
+    pub source: Source<'a>,
     pub lengths: [usize; 3],
     pub fill: u64,
 }
 
 #[derive(Clone, Debug)]
 pub struct Query<'a> {
-    pub file: &'a [u8],
+    pub source: Source<'a>,
     pub question: Question,
     pub lengths: [usize; 4],
     pub fill: u64,
@@ -24,7 +45,7 @@ pub struct Query<'a> {
 /// The lists may be longer than the bytes given for them; what follows these is garbage, or unreadable if `hidden`.
 #[derive(Clone, Debug)]
 pub struct Check<'a> {
-    pub file: &'a [u8],
+    pub source: Source<'a>,
     pub question: Question,
     pub lists: [Vec<u8>; 4],
     pub lengths: [usize; 4],
@@ -35,14 +56,14 @@ pub struct Check<'a> {
 
 #[derive(Clone, Debug)]
 pub struct Ends<'a> {
-    pub file: &'a [u8],
+    pub source: Source<'a>,
     pub length: usize,
     pub fill: u64,
 }
 
 #[derive(Clone, Debug)]
 pub struct Intervals<'a> {
-    pub file: &'a [u8],
+    pub source: Source<'a>,
     pub spans: u64,
     pub length: usize,
     pub fill: u64,
@@ -87,15 +108,16 @@ impl Input<'_> {
         }
     }
 
-    pub fn file(&self) -> &[u8] {
+    /// Bringing forward and back take no withdrawal list; the list of count 0 stands for it.
+    pub fn source(&self) -> Source<'_> {
         match self {
-            Input::Complete(i) => i.file,
-            Input::Query(i) => i.file,
-            Input::Check(i) => i.file,
-            Input::Ends(i) => i.file,
-            Input::Intervals(i) => i.file,
-            Input::Forward(i) => i.file,
-            Input::Back(i) => i.file,
+            Input::Complete(i) => i.source,
+            Input::Query(i) => i.source,
+            Input::Check(i) => i.source,
+            Input::Ends(i) => i.source,
+            Input::Intervals(i) => i.source,
+            Input::Forward(i) => i.file.into(),
+            Input::Back(i) => i.file.into(),
         }
     }
 }
@@ -114,19 +136,25 @@ fn list(lengths: &[usize]) -> String {
     lengths.iter().map(usize::to_string).collect::<Vec<_>>().join(",")
 }
 
+impl fmt::Display for Source<'_> {
+    fn fmt(&self, f: &mut fmt::Formatter) -> fmt::Result {
+        write!(f, "file={} withdrawals={}", hex(self.file), hex(self.withdrawals))
+    }
+}
+
 impl fmt::Display for Input<'_> {
     fn fmt(&self, f: &mut fmt::Formatter) -> fmt::Result {
         let question = |q: &Question| format!("role={} set={} minute={}", q.role, q.set, q.minute);
         match self {
-            Input::Complete(i) => write!(f, "complete file={} lengths={} fill={}", hex(i.file), list(&i.lengths), i.fill),
-            Input::Query(i) => write!(f, "query file={} {} lengths={} fill={}", hex(i.file), question(&i.question), list(&i.lengths), i.fill),
+            Input::Complete(i) => write!(f, "complete {} lengths={} fill={}", i.source, list(&i.lengths), i.fill),
+            Input::Query(i) => write!(f, "query {} {} lengths={} fill={}", i.source, question(&i.question), list(&i.lengths), i.fill),
             Input::Check(i) => {
-                write!(f, "check file={} {} lengths={}", hex(i.file), question(&i.question), list(&i.lengths))?;
+                write!(f, "check {} {} lengths={}", i.source, question(&i.question), list(&i.lengths))?;
                 let lists = i.lists.iter().map(|bytes| hex(bytes)).collect::<Vec<_>>().join(",");
                 write!(f, " lists={lists} count={} hidden={} fill={}", i.count, i.hidden, i.fill)
             }
-            Input::Ends(i) => write!(f, "ends file={} lengths={} fill={}", hex(i.file), i.length, i.fill),
-            Input::Intervals(i) => write!(f, "intervals file={} spans={} lengths={} fill={}", hex(i.file), i.spans, i.length, i.fill),
+            Input::Ends(i) => write!(f, "ends {} lengths={} fill={}", i.source, i.length, i.fill),
+            Input::Intervals(i) => write!(f, "intervals {} spans={} lengths={} fill={}", i.source, i.spans, i.length, i.fill),
             Input::Forward(i) => write!(f, "forward file={} lengths={} fill={}", hex(i.file), i.length, i.fill),
             Input::Back(i) => write!(f, "back file={} lengths={} fill={}", hex(i.file), i.length, i.fill),
         }
@@ -141,7 +169,7 @@ fn numbers<const N: usize>(text: &str) -> Option<[usize; N]> {
     text.split(',').map(|n| n.parse().ok()).collect::<Option<Vec<_>>>()?.try_into().ok()
 }
 
-/// An input as its words; the file's bytes apart, since an input borrows them.
+/// An input as its words; the bytes of the file and of the withdrawal list apart, since an input borrows them.
 pub struct Words<'a>(pub &'a [String]);
 
 impl Words<'_> {
@@ -153,16 +181,22 @@ impl Words<'_> {
         bytes(self.value("file")?)
     }
 
-    pub fn input<'f>(&self, file: &'f [u8]) -> Option<Input<'f>> {
+    /// Of count 0 where none is named.
+    pub fn withdrawals(&self) -> Option<Vec<u8>> {
+        self.value("withdrawals").map_or(Some(NONE.to_vec()), bytes)
+    }
+
+    pub fn input<'f>(&self, source: Source<'f>) -> Option<Input<'f>> {
         let number = |name| self.value(name)?.parse().ok();
         let question = || Some(Question { role: number("role")?, set: number("set")?, minute: number("minute")? });
         let fill = self.value("fill")?.parse().ok()?;
         let lengths = self.value("lengths")?;
+        let file = source.file;
         Some(match self.0.first()?.as_str() {
-            "complete" => Input::Complete(Complete { file, lengths: numbers(lengths)?, fill }),
-            "query" => Input::Query(Query { file, question: question()?, lengths: numbers(lengths)?, fill }),
+            "complete" => Input::Complete(Complete { source, lengths: numbers(lengths)?, fill }),
+            "query" => Input::Query(Query { source, question: question()?, lengths: numbers(lengths)?, fill }),
             "check" => Input::Check(Check {
-                file,
+                source,
                 question: question()?,
                 lengths: numbers(lengths)?,
                 lists: self.value("lists")?.split(',').map(bytes).collect::<Option<Vec<_>>>()?.try_into().ok()?,
@@ -170,8 +204,8 @@ impl Words<'_> {
                 hidden: self.value("hidden")?.parse().ok()?,
                 fill,
             }),
-            "ends" => Input::Ends(Ends { file, length: lengths.parse().ok()?, fill }),
-            "intervals" => Input::Intervals(Intervals { file, spans: self.value("spans")?.parse().ok()?, length: lengths.parse().ok()?, fill }),
+            "ends" => Input::Ends(Ends { source, length: lengths.parse().ok()?, fill }),
+            "intervals" => Input::Intervals(Intervals { source, spans: self.value("spans")?.parse().ok()?, length: lengths.parse().ok()?, fill }),
             "forward" => Input::Forward(Forward { file, length: lengths.parse().ok()?, fill }),
             "back" => Input::Back(Back { file, length: lengths.parse().ok()?, fill }),
             _ => return None,

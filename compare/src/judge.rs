@@ -1,12 +1,13 @@
 //! Holds the calls of one implementation, input by input, against what the second implementation says.
 
-use crate::calls::{Call, Calls, Slice};
-use crate::input::{words, Back, Check, Complete, Ends, Forward, Input, Intervals, Query};
+use crate::calls::{Call, Calls, Given, Slice};
+use crate::input::{words, Back, Check, Complete, Ends, Forward, Input, Intervals, Query, Source};
 use crate::lent::Lent;
 use crate::random::Random;
 use crate::reference::checking::Step;
-use crate::reference::known::{steps, After, Known, Question};
+use crate::reference::known::{steps, After, Effect, Known, Question};
 use crate::reference::meaning::Members;
+use crate::reference::withdrawals::NONE;
 use crate::reference::{carrying, querying, Refusal, RIGHT};
 use crate::watch;
 use std::collections::BTreeMap;
@@ -17,18 +18,26 @@ pub struct Failure(pub String);
 
 pub type Compared<T> = Result<T, Failure>;
 
-/// Inputs compared: by kind and call, and by call and refusal number (0 for success).
+/// Inputs compared: by kind and call, by call and refusal number (0 for success), and by call and what the withdrawal list does.
 #[derive(Default)]
 pub struct Counts {
     pub kinds: BTreeMap<&'static str, [u64; 8]>,
     pub replies: BTreeMap<(&'static str, u32), u64>,
+    pub effects: [[u64; Effect::ALL.len()]; Call::ALL.len()],
     pub longest: u64,
     pub deepest: u64,
 }
 
+/// By these the list of count 0 lies in two places: against the unreadable page after it, and at an odd address.
+const PLACES: [u64; 2] = [6, 0];
+
 pub struct Comparison<'a> {
     subject: &'a dyn Calls,
     file: Lent,
+    /// Lists of count 0, which stay where they are from call to call, and then any other list.
+    withdrawals: [Lent; PLACES.len() + 1],
+    /// Which of them the call is lent.
+    listed: usize,
     lists: [Lent; 4],
     /// Whether entries past the step count may be made unreadable.
     hides: bool,
@@ -51,7 +60,9 @@ pub struct Written {
 impl<'a> Comparison<'a> {
     pub fn new(subject: &'a dyn Calls, hides: bool) -> Comparison<'a> {
         let lists = [(); 4].map(|_| Lent::new());
-        Comparison { subject, file: Lent::new(), lists, hides, kind: "", counts: Counts::default() }
+        let mut withdrawals = [(); PLACES.len() + 1].map(|_| Lent::new());
+        withdrawals.iter_mut().zip(PLACES).for_each(|(list, place)| _ = list.lend(NONE, &mut Random(place)));
+        Comparison { subject, file: Lent::new(), withdrawals, listed: 0, lists, hides, kind: "", counts: Counts::default() }
     }
 
     pub fn has(&self, call: Call) -> bool {
@@ -66,7 +77,15 @@ impl<'a> Comparison<'a> {
     /// A file, as its kind counts it, with what the second implementation knows of it.
     pub fn known(&mut self, file: &[u8]) -> Known {
         self.counted();
-        Known::new(RIGHT, file)
+        known(file)
+    }
+
+    fn lend(&mut self, source: Source, at: &mut Random) -> Given {
+        let file = self.file.lend(source.file, at);
+        let none = source.withdrawals == NONE;
+        self.listed = if none { at.below(PLACES.len()) } else { PLACES.len() };
+        let list = &mut self.withdrawals[self.listed];
+        Given { file, withdrawals: if none { list.lent() } else { list.lend(source.withdrawals, at) } }
     }
 
     pub fn input(&mut self, known: &Known, input: Input) -> Compared<()> {
@@ -87,14 +106,15 @@ impl<'a> Comparison<'a> {
             return Ok(None);
         }
         let mut at = Random(input.fill);
-        let file = self.file.lend(input.file, &mut at);
+        let given = self.lend(input.source, &mut at);
         let lists = [0, 1, 2].map(|i| self.lists[i].lend_garbage(input.lengths[i], &mut at));
         let before = lists.map(Slice::all);
         let lengths = input.lengths;
         let input = Input::Complete(input);
-        let reply = watch::during(&input, || self.subject.complete(file, lists));
+        let reply = watch::during(&input, || self.subject.complete(given, lists));
         let (expected, after) = known.complete(lengths);
         self.reply(&input, reply, expected)?;
+        self.effect(Call::Complete, known);
         let held = match after {
             After::Unchanged => before,
             After::Zero => lengths.map(|length| vec![0; length]),
@@ -112,14 +132,15 @@ impl<'a> Comparison<'a> {
             return Ok(expected.ok().map(|level| Proof { steps: own_proof(known, question), level }));
         }
         let mut at = Random(input.fill);
-        let file = self.file.lend(input.file, &mut at);
+        let given = self.lend(input.source, &mut at);
         let lists = [0, 1, 2, 3].map(|i| self.lists[i].lend_garbage(lengths[i], &mut at));
         let before = match &expected {
             Err((_, After::Unchanged)) => lists.map(Slice::all),
             _ => lengths.map(|length| vec![0; length]),
         };
         let input = Input::Query(input);
-        let reply = watch::during(&input, || self.subject.query(file, question, lists));
+        let reply = watch::during(&input, || self.subject.query(given, question, lists));
+        self.effect(Call::Query, known);
         match expected {
             Err((refusal, _)) => {
                 self.reply(&input, reply, refusal.reply())?;
@@ -176,13 +197,14 @@ impl<'a> Comparison<'a> {
         if !self.subject.has(Call::Check) {
             return Ok(expected);
         }
-        let file = self.file.lend(input.file, &mut at);
+        let given = self.lend(input.source, &mut at);
         let lists = [0, 1, 2, 3].map(|i| match input.hidden {
             true => self.lists[i].lend_part(&all[i], lengths[i], &mut at),
             false => self.lists[i].lend(&all[i], &mut at),
         });
         let input = Input::Check(input);
-        let reply = watch::during(&input, || self.subject.check(file, question, lists, count));
+        let reply = watch::during(&input, || self.subject.check(given, question, lists, count));
+        self.effect(Call::Check, known);
         self.reply(&input, reply, expected)?;
         self.lent(&input, &all)?;
         Ok(reply)
@@ -193,7 +215,8 @@ impl<'a> Comparison<'a> {
             return Ok(());
         }
         let (expected, length, fill) = (known.ends(input.length), input.length, input.fill);
-        self.one_list(Input::Ends(input), length, fill, expected, |subject, file, list| subject.ends(file, list))
+        self.effect(Call::Ends, known);
+        self.one_list(Input::Ends(input), length, fill, expected, |subject, given, list| subject.ends(given, list))
     }
 
     pub fn intervals(&mut self, known: &Known, input: Intervals) -> Compared<()> {
@@ -202,7 +225,8 @@ impl<'a> Comparison<'a> {
         }
         let (spans, length, fill) = (input.spans, input.length, input.fill);
         let expected = known.intervals(spans, length);
-        self.one_list(Input::Intervals(input), length, fill, expected, |subject, file, list| subject.intervals(file, spans, list))
+        self.effect(Call::Intervals, known);
+        self.one_list(Input::Intervals(input), length, fill, expected, |subject, given, list| subject.intervals(given, spans, list))
     }
 
     /// The new file, if one was written. Without the call, the second implementation's.
@@ -210,7 +234,7 @@ impl<'a> Comparison<'a> {
         let (expected, length, fill) = (carrying::forward(&RIGHT, input.file, input.length), input.length, input.fill);
         let new = expected.as_ref().ok().map(|(_, bytes)| bytes.clone());
         if self.subject.has(Call::Forward) {
-            self.one_list(Input::Forward(input), length, fill, expected, |subject, old, list| subject.forward(old, list))?;
+            self.one_list(Input::Forward(input), length, fill, expected, |subject, given, list| subject.forward(given.file, list))?;
         }
         Ok(new)
     }
@@ -220,7 +244,7 @@ impl<'a> Comparison<'a> {
         let (expected, length, fill) = (carrying::back(&RIGHT, input.file, input.length), input.length, input.fill);
         let old = expected.as_ref().ok().map(|(_, bytes)| bytes.clone());
         if self.subject.has(Call::Back) {
-            self.one_list(Input::Back(input), length, fill, expected, |subject, file, list| subject.back(file, list))?;
+            self.one_list(Input::Back(input), length, fill, expected, |subject, given, list| subject.back(given.file, list))?;
         }
         Ok(old)
     }
@@ -232,13 +256,13 @@ impl<'a> Comparison<'a> {
         length: usize,
         fill: u64,
         expected: Result<(u64, Vec<u8>), Refusal>,
-        call: impl FnOnce(&dyn Calls, Slice, Slice) -> u64,
+        call: impl FnOnce(&dyn Calls, Given, Slice) -> u64,
     ) -> Compared<()> {
         let mut at = Random(fill);
-        let file = self.file.lend(input.file(), &mut at);
+        let given = self.lend(input.source(), &mut at);
         let list = self.lists[0].lend_garbage(length, &mut at);
         let before = list.all();
-        let reply = watch::during(&input, || call(self.subject, file, list));
+        let reply = watch::during(&input, || call(self.subject, given, list));
         let (expected, held) = expected.unwrap_or_else(|refusal| (refusal.reply(), before));
         self.reply(&input, reply, expected)?;
         self.lent(&input, &[held])
@@ -255,10 +279,19 @@ impl<'a> Comparison<'a> {
         Ok(())
     }
 
-    /// The file as it was, the lists as expected, the bytes around them as they were.
+    /// One call more with a list that does what this one does.
+    fn effect(&mut self, call: Call, known: &Known) {
+        self.counts.effects[call as usize][known.effect() as usize] += 1;
+    }
+
+    /// File and withdrawal list as they were, the lists as expected, the bytes around them as they were.
     fn lent(&self, input: &Input, lists: &[Vec<u8>]) -> Compared<()> {
-        if self.file.now() != input.file() || !self.file.guarded() {
-            return Err(self.failure(input, "the file or a byte beside it was changed".into()));
+        let source = input.source();
+        let list = &self.withdrawals[self.listed];
+        for (lent, bytes, what) in [(&self.file, source.file, "file"), (list, source.withdrawals, "withdrawal list")] {
+            if lent.now() != bytes || !lent.guarded() {
+                return Err(self.failure(input, format!("the {what} or a byte beside it was changed")));
+            }
         }
         for (i, expected) in lists.iter().enumerate() {
             let now = self.lists[i].now();
@@ -277,6 +310,12 @@ impl<'a> Comparison<'a> {
     pub fn failure(&self, input: &Input, what: String) -> Failure {
         Failure(format!("{} ({}): {what}\nrepeat with: --replay {input}", input.call().name(), self.kind))
     }
+}
+
+/// What the second implementation knows of a file, or of a file and a withdrawal list.
+pub fn known<'a>(source: impl Into<Source<'a>>) -> Known {
+    let Source { file, withdrawals } = source.into();
+    Known::new(RIGHT, file, withdrawals)
 }
 
 /// The second implementation's proof.

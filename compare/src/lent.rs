@@ -69,7 +69,8 @@ impl Lent {
         (self.watched.start..self.slice.start, self.slice.end..self.watched.end)
     }
 
-    fn lent(&self) -> Slice {
+    /// The slice as it is.
+    pub fn lent(&self) -> Slice {
         if self.null {
             return Slice { start: std::ptr::null_mut(), length: 0 };
         }

@@ -16,13 +16,16 @@ mod random;
 mod reference;
 mod serials;
 mod watch;
+mod withdrawals;
+mod withdrawn_cases;
 mod wrong;
 
 use calls::{Call, Calls, Library, Second};
-use judge::{Compared, Comparison, Counts, Failure};
+use input::Source;
+use judge::{known, Compared, Comparison, Counts, Failure};
 use kinds::{Kind, KINDS};
 use random::Random;
-use reference::known::Known;
+use reference::known::Effect;
 use reference::RIGHT;
 use std::process::exit;
 use std::time::Instant;
@@ -149,12 +152,13 @@ fn announce(options: &Options) {
 fn replay(options: &Options, words: &[String]) {
     announce(options);
     let words = input::Words(words);
-    let Some(file) = words.file() else { usage("no input") };
-    let Some(input) = words.input(&file) else { usage("not an input") };
+    let (Some(file), Some(withdrawals)) = (words.file(), words.withdrawals()) else { usage("no input") };
+    let source = Source { file: &file, withdrawals: &withdrawals };
+    let Some(input) = words.input(source) else { usage("not an input") };
     watch::start();
     let mut comparison = Comparison::new(&*options.subject, options.hides);
     comparison.kind = "replay";
-    match comparison.input(&Known::new(RIGHT, &file), input) {
+    match comparison.input(&known(source), input) {
         Ok(()) => println!("no difference"),
         Err(Failure(what)) => {
             println!("FAILED: {what}");
@@ -193,7 +197,7 @@ fn run(options: &Options) {
 }
 
 fn row(name: &str, files: u64, [completed, queried, checked, ends, intervals, forward, back]: [u64; 7]) {
-    print!("{name:9} {files:7} files {completed:7} completed {queried:9} queried {checked:8} checked {ends:7} ends {intervals:7} intervals");
+    print!("{name:11} {files:7} files {completed:7} completed {queried:9} queried {checked:8} checked {ends:7} ends {intervals:7} intervals");
     print!(" {forward:7} forward {back:7} back");
 }
 
@@ -206,20 +210,24 @@ fn summary(counts: &Counts) {
         let replies: Vec<String> = replies.map(|((_, number), count)| format!("{number}: {count}")).collect();
         println!("{} replies by refusal number, 0 for success: {}", call.name(), replies.join(", "));
     }
+    for call in Call::ALL.into_iter().filter(|&call| counts.effects[call as usize] != [0; Effect::ALL.len()]) {
+        let effects = Effect::ALL.map(|(effect, what)| format!("{what}: {}", counts.effects[call as usize][effect as usize]));
+        println!("{} withdrawal lists by what they are or do: {}", call.name(), effects.join(", "));
+    }
     if counts.longest > 0 {
         println!("longest proof {} steps, greatest least level {}", counts.longest, counts.deepest);
     }
 }
 
-/// A whole run meets every refusal of every call, or its inputs are not what they should be.
+/// A whole run meets every refusal of every call, and gives each that takes one withdrawal lists of every effect, or its inputs are not what they should be.
 fn covered(subject: &dyn Calls, counts: &Counts) {
     for call in Call::ALL.into_iter().filter(|&call| subject.has(call)) {
         let last: &[u32] = match call {
-            Call::Complete => &[17, 9, 10],
-            Call::Query => &[17, 9, 10, 11, 12, 13],
-            Call::Check => &[17, 9, 11, 12, 14, 15, 16],
-            Call::Ends => &[17, 9],
-            Call::Intervals => &[17, 9, 11],
+            Call::Complete => &[17, 20, 21, 9, 10],
+            Call::Query => &[17, 20, 21, 9, 10, 11, 12, 13],
+            Call::Check => &[17, 20, 21, 9, 11, 12, 14, 15, 16],
+            Call::Ends => &[17, 20, 21, 9],
+            Call::Intervals => &[17, 20, 21, 9, 11],
             Call::Forward => &[18],
             Call::Back => &[17, 18, 19],
         };
@@ -229,18 +237,28 @@ fn covered(subject: &dyn Calls, counts: &Counts) {
                 exit(1);
             }
         }
+        let takes_list = !matches!(call, Call::Forward | Call::Back);
+        for (effect, what) in Effect::ALL.into_iter().filter(|_| takes_list) {
+            if counts.effects[call as usize][effect as usize] == 0 {
+                println!("FAILED: no input gave {} a withdrawal list: {what}", call.name());
+                exit(1);
+            }
+        }
     }
 }
 
-/// Every wrong variant must be told from the right one; the right one must not.
+/// Every wrong variant must be told from the right one; the right one must not. What is wrong about withdrawal lists is tried first on the
+/// cases and the kinds that are about them, and the rest on the others.
 fn run_self_test(options: &Options) {
     let right = Second { rules: RIGHT };
     let mut missed = 0;
     let variants = wrong::all();
-    let subjects = variants.iter().map(|wrong| (wrong.name, wrong.what, wrong as &dyn Calls));
-    for (name, what, subject) in subjects.chain([("", "the second implementation itself", &right as &dyn Calls)]) {
+    let subjects = variants.iter().map(|wrong| (wrong.name, wrong.what, wrong.withdraws, wrong as &dyn Calls));
+    for (name, what, withdraws, subject) in subjects.chain([("", "the second implementation itself", false, &right as &dyn Calls)]) {
         let mut comparison = Comparison::new(subject, false);
-        let caught = KINDS.iter().find_map(|kind| compare(&mut comparison, options, kind).err().map(|Failure(what)| (kind.name, what)));
+        let (first, then): (Vec<&Kind>, Vec<&Kind>) = KINDS.iter().partition(|kind| kind.tried_first(withdraws));
+        let mut kinds = first.into_iter().chain(then);
+        let caught = kinds.find_map(|kind| compare(&mut comparison, options, kind).err().map(|Failure(what)| (kind.name, what)));
         let calls: u64 = comparison.counts.kinds.values().flat_map(|row| &row[1..]).sum();
         let verdict = match &caught {
             Some((kind, _)) => format!("caught in {kind} after {calls} calls"),

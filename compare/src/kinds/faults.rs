@@ -5,7 +5,7 @@ use crate::damage;
 use crate::explore::*;
 use crate::extremes::with_ends;
 use crate::files::*;
-use crate::input::{words, Check, Complete, Ends, Intervals, Query};
+use crate::input::{words, Check, Complete, Ends, Intervals, Query, Source};
 use crate::judge::{Compared, Comparison};
 use crate::random::Random;
 use crate::reference::checking::Step;
@@ -94,7 +94,9 @@ pub fn dense_of(random: &mut Random, count: usize) -> Draft {
     }
 }
 
-pub fn damaged_calls(c: &mut Comparison, random: &mut Random, file: &[u8], known: &Known) -> Compared<()> {
+/// All calls but forward and back, without and with faults of their other arguments.
+pub fn damaged_calls<'a>(c: &mut Comparison, random: &mut Random, source: impl Into<Source<'a>>, known: &Known) -> Compared<()> {
+    let source = source.into();
     for faulty in [false, true] {
         let length = random.within(1, 40);
         let mut lengths = [4 * length; 4];
@@ -112,23 +114,23 @@ pub fn damaged_calls(c: &mut Comparison, random: &mut Random, file: &[u8], known
             }
         }
         let [a, b, spans, _] = lengths;
-        c.complete(known, Complete { file, lengths: [a, b, 2 * spans], fill: random.next() })?;
-        c.query(known, Query { file, question, lengths, fill: random.next() })?;
+        c.complete(known, Complete { source, lengths: [a, b, 2 * spans], fill: random.next() })?;
+        c.query(known, Query { source, question, lengths, fill: random.next() })?;
         let steps = few_steps(random, length);
-        let check = Check { file, question, lists: words(&steps), lengths, count, hidden: false, fill: random.next() };
+        let check = Check { source, question, lists: words(&steps), lengths, count, hidden: false, fill: random.next() };
         c.check(known, check)?;
-        damaged_ends(c, random, file, known, faulty)?;
+        damaged_ends(c, random, source, known, faulty)?;
     }
     Ok(())
 }
 
 /// The ends and the intervals, with faults of the list and of the span number; the random numbers stay as they are.
-fn damaged_ends(c: &mut Comparison, random: &Random, file: &[u8], known: &Known, faulty: bool) -> Compared<()> {
+fn damaged_ends(c: &mut Comparison, random: &Random, source: Source, known: &Known, faulty: bool) -> Compared<()> {
     let random = &mut random.clone();
     let lengths = if faulty { &LISTS[..] } else { &[BYTES] };
     let spans = if faulty { random.choose(&[0, 1, u64::MAX, 1 << 63, 1 << 32]) } else { 0 };
-    c.ends(known, Ends { file, length: random.choose(lengths), fill: random.next() })?;
-    c.intervals(known, Intervals { file, spans, length: random.choose(lengths), fill: random.next() })
+    c.ends(known, Ends { source, length: random.choose(lengths), fill: random.next() })?;
+    c.intervals(known, Intervals { source, spans, length: random.choose(lengths), fill: random.next() })
 }
 
 /// Steps with small words, which hold now and then.
@@ -187,6 +189,7 @@ pub fn lists(c: &mut Comparison, random: &mut Random, count: usize) -> Compared<
     for _ in 0..count {
         let file = dense(random, &SMALL).numbered(random);
         let known = opened(c, random, &file)?;
+        let source = Source::from(&file);
         let fits = known.table().map_or(1, |table| table.len());
         let mut entries = vec![0, 1, 2, fits.saturating_sub(1), fits, fits + 1, 1023, 1024, 1025, 2000];
         entries.dedup();
@@ -194,22 +197,22 @@ pub fn lists(c: &mut Comparison, random: &mut Random, count: usize) -> Compared<
         for &roles in &lengths {
             for &sets in &[roles, random.choose(&lengths)] {
                 for spans in [2 * roles, roles, 2 * roles + 1, 2 * roles + 4, 8 * (roles / 4), random.choose(&lengths)] {
-                    c.complete(&known, Complete { file: &file, lengths: [roles, sets, spans], fill: random.next() })?;
+                    c.complete(&known, Complete { source, lengths: [roles, sets, spans], fill: random.next() })?;
                 }
             }
-            query_lists(c, random, &file, &known, roles, &lengths)?;
+            query_lists(c, random, source, &known, roles, &lengths)?;
         }
         let random = &mut random.clone();
         for length in 0..1100 {
-            c.ends(&known, Ends { file: &file, length, fill: random.next() })?;
-            c.intervals(&known, Intervals { file: &file, spans: random.choose(&[0, 1, 1 << 63]), length, fill: random.next() })?;
+            c.ends(&known, Ends { source, length, fill: random.next() })?;
+            c.intervals(&known, Intervals { source, spans: random.choose(&[0, 1, 1 << 63]), length, fill: random.next() })?;
         }
     }
     Ok(())
 }
 
 /// All four lists of one length, and one of them of another.
-fn query_lists(c: &mut Comparison, random: &mut Random, file: &[u8], known: &Known, length: usize, others: &[usize]) -> Compared<()> {
+fn query_lists(c: &mut Comparison, random: &mut Random, source: Source, known: &Known, length: usize, others: &[usize]) -> Compared<()> {
     for odd in 0..5 {
         for other in [length + 1, length + 4, length.saturating_sub(4), 4 * (length / 4), random.choose(others)] {
             let mut lengths = [length; 4];
@@ -217,10 +220,10 @@ fn query_lists(c: &mut Comparison, random: &mut Random, file: &[u8], known: &Kno
                 lengths[odd] = other;
             }
             let question = Question { role: 0, set: random.within(0, 3) as u32, minute: random.choose(&[0, 12, u32::MAX - 2, u32::MAX]) };
-            c.query(known, Query { file, question, lengths, fill: random.next() })?;
+            c.query(known, Query { source, question, lengths, fill: random.next() })?;
             let count = random.choose(&[0, 1, length as u64 / 4, length as u64 / 4 + 1]);
             let lists = words(&few_steps(random, 3));
-            c.check(known, Check { file, question, lists, lengths, count, hidden: false, fill: random.next() })?;
+            c.check(known, Check { source, question, lists, lengths, count, hidden: false, fill: random.next() })?;
         }
     }
     Ok(())

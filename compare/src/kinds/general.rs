@@ -1,6 +1,7 @@
 //! Files of all sizes and shapes that are within the limits or just beyond one.
 
 use super::faults::damaged_calls;
+use super::withdrawals::{checked_withdrawn, listed_once_in, one_emptied};
 use crate::carried::opened;
 use crate::explore::*;
 use crate::extremes::*;
@@ -77,6 +78,7 @@ pub fn medium(c: &mut Comparison, random: &mut Random, count: usize) -> Compared
         let known = opened(c, random, &file)?;
         complete_all(c, random, &file, &known)?;
         query_some(c, random, &file, &known, 40, 2)?;
+        listed_once_in(c, random, &file, 4)?;
     }
     Ok(())
 }
@@ -112,6 +114,9 @@ pub fn full(c: &mut Comparison, random: &mut Random, count: usize) -> Compared<(
         let known = opened(c, random, &file)?;
         complete_all(c, random, &file, &known)?;
         query_some(c, random, &file, &known, 60, 2)?;
+        if i % 10 == 3 {
+            listed_once_in(c, random, &file, 1)?;
+        }
     }
     Ok(())
 }
@@ -139,6 +144,7 @@ pub fn deep(c: &mut Comparison, random: &mut Random, count: usize) -> Compared<(
             let length = random.choose(&[levels.len(), MOST]);
             let Some(proof) = c.query(&known, queried(&file, question, length, random.next()))? else { continue };
             handed_out(c, &file, &known, question, &proof, length, random.next())?;
+            checked_withdrawn(c, random, &file, question, &proof.steps)?;
             let read = known.read.as_ref().unwrap();
             for _ in 0..10 {
                 let steps = proofs::some_word(random, read, &proof.steps);
@@ -160,6 +166,9 @@ pub fn limit(c: &mut Comparison, random: &mut Random, count: usize) -> Compared<
             c.complete(&known, completed(&file, length, random.next()))?;
         }
         query_some(c, random, &file, &known, 8, 2)?;
+        if total == 1025 && i % 2 == 1 {
+            one_emptied(c, random, &file)?;
+        }
     }
     Ok(())
 }

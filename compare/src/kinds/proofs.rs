@@ -3,7 +3,7 @@
 use crate::carried::opened;
 use crate::explore::*;
 use crate::files::*;
-use crate::judge::{Compared, Comparison};
+use crate::judge::{known, Compared, Comparison};
 use crate::proofs;
 use crate::random::Random;
 use crate::reference::known::{Known, Question};
@@ -14,7 +14,7 @@ use crate::reference::{Rules, MOST, RIGHT};
 fn provable(c: &mut Comparison, random: &mut Random) -> Compared<(Vec<u8>, Known, Question)> {
     loop {
         let file = dense(random, &SMALL).numbered(random);
-        let known = Known::new(RIGHT, &file);
+        let known = known(&file);
         let minute = random.choose(&minutes(known.read.as_ref().unwrap()));
         let Members::Levels(levels) = &*known.members(minute) else { continue };
         // Rather a deep one.

@@ -1,7 +1,7 @@
 //! Document 02, request Three: an old file brought forward, and a file brought back. The credentials are read, changed and
 //! written again; no byte is taken over from the input.
 
-use super::reading::{Body, Credential, File};
+use super::reading::{read, Body, Credential, File};
 use super::{refuse, Refusal, Rules};
 
 /// N and the new file's bytes, in a list of this length; or the refusal, which leaves the list as it was.
@@ -20,7 +20,7 @@ pub fn forward(rules: &Rules, old: &[u8], length: usize) -> Result<(u64, Vec<u8>
 
 /// N and the old file's bytes; or the refusal, likewise.
 pub fn back(rules: &Rules, new: &[u8], length: usize) -> Result<(u64, Vec<u8>), Refusal> {
-    let mut file = (rules.reads)(rules, new)?;
+    let mut file = read(rules, new)?;
     if 6 + 16 * file.credentials.len() != length {
         return refuse(18);
     }

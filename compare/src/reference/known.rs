@@ -1,21 +1,51 @@
-//! The calls on one file: document 01's table of refusals from top to bottom, then the answer.
-//! A minute's memberships and the table are computed once for a file and kept.
+//! The calls on one file with its withdrawal list: document 01's table of refusals from top to bottom, then the answer.
+//! A minute's memberships and the table are computed once for a file with its list and kept.
 
 use super::checking::{check, Step};
 use super::completing::{table, written, Table};
 use super::ends::{intervals, listed, whole_list};
 use super::meaning::{members, Members};
-use super::reading::{word, File};
+use super::reading::{ends, word, Credential, File};
+use super::withdrawals::NONE;
 use super::{refuse, Membership, Refusal, Rules, MOST};
 use std::cell::{OnceCell, RefCell};
-use std::collections::BTreeMap;
+use std::collections::{BTreeMap, BTreeSet};
 use std::rc::Rc;
 
 pub struct Known {
     pub rules: Rules,
     pub read: Result<File, Refusal>,
+    effect: OnceCell<Effect>,
     minutes: RefCell<BTreeMap<u32, Rc<Members>>>,
     table: OnceCell<Option<Table>>,
+}
+
+/// What a withdrawal list does to a file.
+#[derive(Clone, Copy, PartialEq, Eq, Debug)]
+pub enum Effect {
+    None,
+    Nothing,
+    Cuts,
+    Empties,
+    EmptiesAll,
+    Fewer,
+    TooMany,
+    Refused,
+    Unread,
+}
+
+impl Effect {
+    pub const ALL: [(Effect, &'static str); 9] = [
+        (Effect::None, "count 0"),
+        (Effect::Nothing, "change no period"),
+        (Effect::Cuts, "cut"),
+        (Effect::Empties, "empty some out"),
+        (Effect::EmptiesAll, "empty all out"),
+        (Effect::Fewer, "leave 64 ends or fewer of more"),
+        (Effect::TooMany, "leave over 64 ends"),
+        (Effect::Refused, "refused"),
+        (Effect::Unread, "with a refused file"),
+    ];
 }
 
 /// A question of querying and checking.
@@ -59,9 +89,38 @@ pub fn steps(lists: &[&[u8]; 4], count: usize) -> Vec<Step> {
     (0..count).map(step).collect()
 }
 
+/// Of an accepted file with a list that is not of count 0.
+fn effect(rules: &Rules, file: &File) -> Effect {
+    let uncut = |c: &Credential| [c.from, (rules.end)(c.to)];
+    let emptied = file.credentials.iter().filter(|c| ends(rules, c).is_empty()).count();
+    if file.credentials.iter().flat_map(uncut).collect::<BTreeSet<u32>>().len() > rules.most_ends {
+        Effect::Fewer
+    } else if emptied == file.credentials.len() {
+        Effect::EmptiesAll
+    } else if emptied > 0 {
+        Effect::Empties
+    } else if file.credentials.iter().any(|c| ends(rules, c) != uncut(c)) {
+        Effect::Cuts
+    } else {
+        Effect::Nothing
+    }
+}
+
 impl Known {
-    pub fn new(rules: Rules, bytes: &[u8]) -> Known {
-        Known { rules, read: (rules.reads)(&rules, bytes), minutes: Default::default(), table: OnceCell::new() }
+    pub fn new(rules: Rules, bytes: &[u8], list: &[u8]) -> Known {
+        let read = (rules.reads_withdrawn)(&rules, bytes, list);
+        let effect = if list == NONE { Effect::None.into() } else { OnceCell::new() };
+        Known { rules, read, effect, minutes: Default::default(), table: OnceCell::new() }
+    }
+
+    /// What the list does.
+    pub fn effect(&self) -> Effect {
+        *self.effect.get_or_init(|| match &self.read {
+            Ok(file) => effect(&self.rules, file),
+            Err(Refusal { number: 8, .. }) => Effect::TooMany,
+            Err(Refusal { number: 20 | 21, .. }) => Effect::Refused,
+            Err(_) => Effect::Unread,
+        })
     }
 
     pub fn table(&self) -> Option<&Table> {

@@ -14,7 +14,8 @@ pub enum Members {
 }
 
 pub fn valid(rules: &Rules, credential: &Credential, minute: u32) -> bool {
-    (rules.covers)(credential.from, credential.to, minute)
+    let gone = credential.withdrawn.is_some_and(|withdrawn| (rules.gone)(withdrawn, minute));
+    (rules.covers)(credential.from, credential.to, minute) && !gone
 }
 
 pub fn members(rules: &Rules, file: &File, minute: u32) -> Members {

@@ -1,4 +1,4 @@
-//! A second implementation of the calls of document 01, written from documents 01, 02 (requests One, Two and Three) and 003 and not from the library.
+//! A second implementation of the calls of document 01, written from documents 01, 02 (requests One to Four) and 003 and not from the library.
 //! It is as slow and as plain as it can be: every minute's memberships are Definition 3's sequence from nothing.
 
 pub mod carrying;
@@ -10,13 +10,15 @@ pub mod meaning;
 pub mod old;
 pub mod querying;
 pub mod reading;
+pub mod withdrawals;
 
-use reading::{read, File};
+use reading::{credentials, File};
+use withdrawals::{misnames, read_withdrawn, withdraw, withdrawals, Withdrawal};
 
 /// The parts of the rules that a wrong variant may replace.
 #[derive(Clone, Copy)]
 pub struct Rules {
-    /// The file that the bytes are, or the refusal.
+    /// The file that the bytes are, without its ends, or the first of the refusals 1 to 7 and 17.
     pub reads: fn(rules: &Rules, bytes: &[u8]) -> Result<File, Refusal>,
     /// Whether 17 refuses a serial after those of the earlier credentials, which are in file order.
     pub taken: fn(earlier: &[u32], serial: u32) -> bool,
@@ -26,6 +28,20 @@ pub struct Rules {
     pub covers: fn(from: u32, to: u32, minute: u32) -> bool,
     /// The end that `to` makes.
     pub end: fn(to: u32) -> u32,
+    /// How many ends 8 allows.
+    pub most_ends: usize,
+    /// The file that the bytes and a withdrawal list make, or the refusal.
+    pub reads_withdrawn: fn(rules: &Rules, bytes: &[u8], list: &[u8]) -> Result<File, Refusal>,
+    /// The withdrawals that the bytes are, or 20.
+    pub lists: fn(list: &[u8]) -> Result<Vec<Withdrawal>, Refusal>,
+    /// Whether 21 refuses the list.
+    pub misnames: fn(file: &File, list: &[Withdrawal]) -> bool,
+    /// Notes which credentials the list withdraws.
+    pub withdraws: fn(file: &mut File, list: &[Withdrawal]),
+    /// Whether a credential that is withdrawn from one minute has gone at another.
+    pub gone: fn(withdrawn: u32, minute: u32) -> bool,
+    /// The ends of such a credential, by its `from` and the end that its `to` makes.
+    pub left: fn(from: u32, end: u32, withdrawn: u32) -> Vec<u32>,
     /// The entity C for which a set is {C}.
     pub links: fn(set: u32) -> Option<u32>,
     /// What the kinds 3, 4 and 5 give from X in b.s and Y in c.t.
@@ -43,8 +59,28 @@ pub struct Rules {
     pub raises: fn(from: u32, to: u32) -> (u32, u32),
 }
 
-pub const RIGHT: Rules =
-    Rules { reads: read, taken, refuses, covers, end, links, combines, rounds: usize::MAX, reads_old, numbers, strange, lowers, raises };
+pub const RIGHT: Rules = Rules {
+    reads: credentials,
+    taken,
+    refuses,
+    covers,
+    end,
+    most_ends: 64,
+    reads_withdrawn: read_withdrawn,
+    lists: withdrawals,
+    misnames,
+    withdraws: withdraw,
+    gone,
+    left,
+    links,
+    combines,
+    rounds: usize::MAX,
+    reads_old,
+    numbers,
+    strange,
+    lowers,
+    raises,
+};
 
 fn taken(earlier: &[u32], serial: u32) -> bool {
     serial == 0 || earlier.contains(&serial)
@@ -61,6 +97,21 @@ fn covers(from: u32, to: u32, minute: u32) -> bool {
 /// Of a period that is not refused.
 fn end(to: u32) -> u32 {
     to + 1
+}
+
+fn gone(withdrawn: u32, minute: u32) -> bool {
+    withdrawn <= minute
+}
+
+/// None where the withdrawal is at or before `from`; else it ends where the withdrawal begins, if that is earlier.
+fn left(from: u32, end: u32, withdrawn: u32) -> Vec<u32> {
+    if withdrawn <= from {
+        Vec::new()
+    } else if withdrawn < end {
+        vec![from, withdrawn]
+    } else {
+        vec![from, end]
+    }
 }
 
 fn links(set: u32) -> Option<u32> {

@@ -5,7 +5,7 @@ use super::reading::{credential, sizes, with_ends, File};
 use super::{refuse, Refusal, Rules, RIGHT};
 
 /// The rules by which an old file is read: other bytes, another 7, another meaning of `to`, other ends. The rest has stayed.
-pub const OLD: Rules = Rules { reads: read_old, refuses, covers, end, ..RIGHT };
+pub const OLD: Rules = Rules { reads: old_credentials, refuses, covers, end, ..RIGHT };
 
 fn refuses(from: u32, to: u32) -> bool {
     from >= to

@@ -1,5 +1,5 @@
 //! Document 01, "The credentials file", with document 02's requests One and Two: bytes to credentials, or the first of the refusals
-//! 1 to 8 and 17.
+//! 1 to 7 and 17; then 8.
 
 use super::{refuse, role, Refusal, Rules};
 use std::collections::BTreeSet;
@@ -25,6 +25,8 @@ pub struct Credential {
     /// As the file has them: both minutes are covered; in an old file, `to` is not.
     pub from: u32,
     pub to: u32,
+    /// The minute from which a list withdraws it, if one does.
+    pub withdrawn: Option<u32>,
 }
 
 #[derive(Clone, PartialEq, Eq, Debug)]
@@ -32,12 +34,13 @@ pub struct File {
     pub entities: u32,
     pub names: u32,
     pub credentials: Vec<Credential>,
-    /// The distinct from values and `to` values plus one, ascending; in an old file, the from and to values.
+    /// The distinct from values and `to` values plus one, ascending, of what is left of the periods; in an old file, the from and to values.
     pub ends: Vec<u32>,
 }
 
+/// The file without a withdrawal list, or the first of the refusals 1 to 8 and 17.
 pub fn read(rules: &Rules, bytes: &[u8]) -> Result<File, Refusal> {
-    with_ends(rules, credentials(rules, bytes)?)
+    with_ends(rules, (rules.reads)(rules, bytes)?)
 }
 
 /// The file without its ends, or the first of the refusals 1 to 7 and 17.
@@ -79,12 +82,21 @@ pub fn sizes(bytes: &[u8]) -> Result<(u32, u32, usize), Refusal> {
 
 /// The file with its ends, or 8.
 pub fn with_ends(rules: &Rules, mut file: File) -> Result<File, Refusal> {
-    let ends: BTreeSet<u32> = file.credentials.iter().flat_map(|c| [c.from, (rules.end)(c.to)]).collect();
+    let ends: BTreeSet<u32> = file.credentials.iter().flat_map(|credential| ends(rules, credential)).collect();
     file.ends = ends.into_iter().collect();
-    if file.ends.len() > 64 {
+    if file.ends.len() > rules.most_ends {
         return refuse(8);
     }
     Ok(file)
+}
+
+/// A credential's two ends, or none if all its minutes are withdrawn.
+pub fn ends(rules: &Rules, credential: &Credential) -> Vec<u32> {
+    let (from, end) = (credential.from, (rules.end)(credential.to));
+    match credential.withdrawn {
+        None => vec![from, end],
+        Some(minute) => (rules.left)(from, end, minute),
+    }
 }
 
 /// Which of b, s, c, t a kind uses.
@@ -122,7 +134,7 @@ pub fn credential(rules: &Rules, statement: &[u8], serial: u32, period: &[u8], e
         2 => Body::Linked(role(b, s), t),
         _ => Body::Pair(kind, role(b, s), role(c, t)),
     };
-    Ok(Credential { serial, head: role(issuer, name), body, from, to })
+    Ok(Credential { serial, head: role(issuer, name), body, from, to, withdrawn: None })
 }
 
 /// The 32-bit number at a position counted in numbers, lowest byte first.

@@ -1,11 +1,11 @@
 //! Wrong ways to bring a file forward and back.
 
-use super::{accepted, back, cleared, forward, number, on, refusal, rules, unwritten, Wrong, RIGHT};
+use super::{back, cleared, forward, number, on, refusal, rules, unwritten, Wrong, RIGHT};
 use crate::calls::{zero, Calls, Second, Slice};
 use crate::carried::{new_length, old_length, said};
 use crate::reference::carrying;
 use crate::reference::old::{old_credentials, read_old, OLD};
-use crate::reference::reading::{credentials, word, File};
+use crate::reference::reading::{read, word, File};
 use crate::reference::{Refusal, Rules};
 
 pub const ALL: &[Wrong] = &[
@@ -139,7 +139,7 @@ pub const ALL: &[Wrong] = &[
         |_, f, l| Second { rules: Rules { refuses: |from, to| from > to, end: wrapping, ..RIGHT } }.back(f, l),
         "the last `to` taken back",
     ),
-    back("back-eight-never", |_, f, l| Second { rules: Rules { reads: credentials, ..RIGHT } }.back(f, l), "no 8 going back"),
+    back("back-eight-never", |_, f, l| Second { rules: Rules { most_ends: usize::MAX, ..RIGHT } }.back(f, l), "no 8 going back"),
     back("back-eight-at-to", |_, f, l| Second { rules: Rules { end: |to| to, ..RIGHT } }.back(f, l), "8 counted by `to` going back"),
     back(
         "back-old-file",
@@ -186,7 +186,7 @@ pub const ALL: &[Wrong] = &[
     back("back-replies-length", |s, f, l| replied(s.back(f, l), || l.length as u64), "the length as reply"),
     back("back-replies-more", |s, f, l| on(s.back(f, l), &[0], |count| count + 1), "N plus one as reply"),
     back("back-replies-zero", |s, f, l| on(s.back(f, l), &[0], |_| 0), "0 as reply"),
-    back("back-replies-ends", |s, f, l| replied(s.back(f, l), || accepted(f).unwrap().ends.len() as u64), "the count of ends as reply"),
+    back("back-replies-ends", |s, f, l| replied(s.back(f, l), || uncut(f).unwrap().ends.len() as u64), "the count of ends as reply"),
     back("back-exchanged", |s, f, l| s.back(f, l).rotate_left(32), "place and number exchanged"),
 ];
 
@@ -203,6 +203,11 @@ fn wrapping(to: u32) -> u32 {
 
 fn low_half(to: u32, change: fn(u16, u16) -> u16) -> u32 {
     to & 0xFFFF_0000 | change(to as u16, 1) as u32
+}
+
+/// The file, where going back reads it.
+fn uncut(file: Slice) -> Option<File> {
+    read(&RIGHT, &file.all()).ok()
 }
 
 /// What a call that passed wrote, changed.
@@ -414,7 +419,7 @@ fn byte_seven(second: &Second, old: Slice, list: Slice) -> u64 {
 
 fn new_file(second: &Second, old: Slice, list: Slice) -> u64 {
     let reply = second.forward(old, list);
-    match accepted(old) {
+    match uncut(old) {
         Some(file) if number(reply) == 3 && list.length == old.length => {
             list.write(&old.all());
             file.credentials.len() as u64

@@ -1,9 +1,9 @@
 //! Wrong ways to check a proof.
 
-use super::{accepted, check, different, number, on, refusal, right, Wrong, RIGHT};
-use crate::calls::{zero, Calls, Second, Slice};
+use super::{accepted, check, different, known, number, on, refusal, right, Wrong, RIGHT};
+use crate::calls::{zero, Calls, Given, Second, Slice};
 use crate::reference::checking::{all_shown, shows, Shown, Step};
-use crate::reference::known::{steps, Known, Question};
+use crate::reference::known::{steps, Question};
 use crate::reference::meaning::Members;
 use crate::reference::querying::judge;
 use crate::reference::reading::{Body, File};
@@ -51,9 +51,9 @@ enum Lax {
 }
 
 /// The checker without one of its tests.
-fn lax(second: &Second, file: Slice, q: Question, lists: [Slice; 4], count: u64, lax: Lax) -> u64 {
-    let Some(steps) = reads(second, file, q, lists, count) else { return second.check(file, q, lists, count) };
-    let read = accepted(file).unwrap();
+fn lax(second: &Second, given: Given, q: Question, lists: [Slice; 4], count: u64, lax: Lax) -> u64 {
+    let Some(steps) = reads(second, given, q, lists, count) else { return second.check(given, q, lists, count) };
+    let read = accepted(given).unwrap();
     let mut shown: Vec<Shown> = Vec::new();
     for (place, step) in steps.into_iter().enumerate() {
         match lax_step(&read, q.minute, &shown, step, lax) {
@@ -95,8 +95,8 @@ fn pairs(shown: &[Shown]) -> Vec<u32> {
 }
 
 /// The first steps, if the right call comes as far as to read them.
-pub fn reads(second: &Second, file: Slice, q: Question, lists: [Slice; 4], count: u64) -> Option<Vec<Step>> {
-    let reply = number(second.check(file, q, lists, count));
+pub fn reads(second: &Second, given: Given, q: Question, lists: [Slice; 4], count: u64) -> Option<Vec<Step>> {
+    let reply = number(second.check(given, q, lists, count));
     matches!(reply, 0 | 15 | 16).then(|| {
         let bytes = lists.map(|list| list.first(4 * count as usize));
         steps(&[&bytes[0], &bytes[1], &bytes[2], &bytes[3]], count as usize)
@@ -104,25 +104,25 @@ pub fn reads(second: &Second, file: Slice, q: Question, lists: [Slice; 4], count
 }
 
 /// The right call on other steps.
-pub fn instead(second: &Second, file: Slice, q: Question, steps: &[Step]) -> u64 {
+pub fn instead(second: &Second, given: Given, q: Question, steps: &[Step]) -> u64 {
     let mut words = crate::input::words(steps);
     let lists = words.each_mut().map(|list| Slice { start: list.as_mut_ptr(), length: list.len() });
-    second.check(file, q, lists, steps.len() as u64)
+    second.check(given, q, lists, steps.len() as u64)
 }
 
-fn second_word_untested(second: &Second, file: Slice, q: Question, lists: [Slice; 4], count: u64) -> u64 {
-    let Some(mut steps) = reads(second, file, q, lists, count) else { return second.check(file, q, lists, count) };
-    let read = accepted(file).unwrap();
+fn second_word_untested(second: &Second, given: Given, q: Question, lists: [Slice; 4], count: u64) -> u64 {
+    let Some(mut steps) = reads(second, given, q, lists, count) else { return second.check(given, q, lists, count) };
+    let read = accepted(given).unwrap();
     for step in &mut steps {
         if let Some(Body::Role(_)) = read.credentials.get(step.credential as usize).map(|c| c.body) {
             step.second = 0;
         }
     }
-    instead(second, file, q, &steps)
+    instead(second, given, q, &steps)
 }
 
-fn no_steps_pass(second: &Second, file: Slice, q: Question, lists: [Slice; 4], count: u64) -> u64 {
-    let reply = second.check(file, q, lists, count);
+fn no_steps_pass(second: &Second, given: Given, q: Question, lists: [Slice; 4], count: u64) -> u64 {
+    let reply = second.check(given, q, lists, count);
     if count == 0 && number(reply) == 14 {
         0
     } else {
@@ -131,21 +131,21 @@ fn no_steps_pass(second: &Second, file: Slice, q: Question, lists: [Slice; 4], c
 }
 
 /// All periods but the last credential's cover every minute.
-fn last_credential_valid(second: &Second, file: Slice, q: Question, lists: [Slice; 4], count: u64) -> u64 {
-    let Some(steps) = reads(second, file, q, lists, count) else { return second.check(file, q, lists, count) };
-    let mut bytes = file.all();
-    let credentials = accepted(file).unwrap().credentials.len();
+fn last_credential_valid(second: &Second, given: Given, q: Question, lists: [Slice; 4], count: u64) -> u64 {
+    let Some(steps) = reads(second, given, q, lists, count) else { return second.check(given, q, lists, count) };
+    let mut bytes = given.file.all();
+    let credentials = accepted(given).unwrap().credentials.len();
     for place in (0..credentials).filter(|&place| place as u32 != steps[steps.len() - 1].credential) {
         bytes[6 + 12 * credentials + 8 * place..][..8].copy_from_slice(&[0, 0, 0, 0, 254, 255, 255, 255]);
     }
     let wide = Slice { start: bytes.as_mut_ptr(), length: bytes.len() };
-    instead(second, wide, q, &steps)
+    instead(second, Given { file: wide, ..given }, q, &steps)
 }
 
-fn sixteen_before_fifteen(second: &Second, file: Slice, q: Question, lists: [Slice; 4], count: u64) -> u64 {
-    let reply = second.check(file, q, lists, count);
-    if let Some(last) = reads(second, file, q, lists, count).and_then(|steps| steps.last().copied()) {
-        let head = accepted(file).unwrap().credentials.get(last.credential as usize).map(|c| c.head);
+fn sixteen_before_fifteen(second: &Second, given: Given, q: Question, lists: [Slice; 4], count: u64) -> u64 {
+    let reply = second.check(given, q, lists, count);
+    if let Some(last) = reads(second, given, q, lists, count).and_then(|steps| steps.last().copied()) {
+        let head = accepted(given).unwrap().credentials.get(last.credential as usize).map(|c| c.head);
         if head != Some(q.role) || last.set != q.set {
             return refusal(16);
         }
@@ -154,26 +154,26 @@ fn sixteen_before_fifteen(second: &Second, file: Slice, q: Question, lists: [Sli
 }
 
 /// The level of the last step, whatever it shows.
-fn sixteen_never(second: &Second, file: Slice, q: Question, lists: [Slice; 4], count: u64) -> u64 {
-    let reply = second.check(file, q, lists, count);
-    match reads(second, file, q, lists, count).map(|steps| all_shown(&RIGHT, &accepted(file).unwrap(), q.minute, &steps)) {
+fn sixteen_never(second: &Second, given: Given, q: Question, lists: [Slice; 4], count: u64) -> u64 {
+    let reply = second.check(given, q, lists, count);
+    match reads(second, given, q, lists, count).map(|steps| all_shown(&RIGHT, &accepted(given).unwrap(), q.minute, &steps)) {
         Some(Ok(shown)) => shown[shown.len() - 1].1 as u64,
         _ => reply,
     }
 }
 
-fn highest_level(second: &Second, file: Slice, q: Question, lists: [Slice; 4], count: u64) -> u64 {
-    let reply = second.check(file, q, lists, count);
+fn highest_level(second: &Second, given: Given, q: Question, lists: [Slice; 4], count: u64) -> u64 {
+    let reply = second.check(given, q, lists, count);
     if number(reply) != 0 {
         return reply;
     }
-    let steps = reads(second, file, q, lists, count).unwrap();
-    let shown = all_shown(&RIGHT, &accepted(file).unwrap(), q.minute, &steps).unwrap();
+    let steps = reads(second, given, q, lists, count).unwrap();
+    let shown = all_shown(&RIGHT, &accepted(given).unwrap(), q.minute, &steps).unwrap();
     shown.iter().map(|&(_, level)| level as u64).max().unwrap()
 }
 
-fn count_against_1024(second: &Second, file: Slice, q: Question, lists: [Slice; 4], count: u64) -> u64 {
-    let reply = second.check(file, q, lists, count);
+fn count_against_1024(second: &Second, given: Given, q: Question, lists: [Slice; 4], count: u64) -> u64 {
+    let reply = second.check(given, q, lists, count);
     let length = lists[0].length as u64 / 4;
     if number(reply) == 14 && count > length && count <= 1024 {
         refusal(15) + length
@@ -182,8 +182,8 @@ fn count_against_1024(second: &Second, file: Slice, q: Question, lists: [Slice; 
     }
 }
 
-fn zeros_demanded(second: &Second, file: Slice, q: Question, lists: [Slice; 4], count: u64) -> u64 {
-    let reply = second.check(file, q, lists, count);
+fn zeros_demanded(second: &Second, given: Given, q: Question, lists: [Slice; 4], count: u64) -> u64 {
+    let reply = second.check(given, q, lists, count);
     let past = |list: &Slice| list.all()[4 * count as usize..].iter().any(|&byte| byte != 0);
     if number(reply) == 0 && lists.iter().any(past) {
         refusal(15) + count
@@ -193,13 +193,13 @@ fn zeros_demanded(second: &Second, file: Slice, q: Question, lists: [Slice; 4], 
 }
 
 /// 15 at the last step where querying's demands fail in this way.
-fn demanding(second: &Second, file: Slice, q: Question, lists: [Slice; 4], count: u64, demand: &str) -> u64 {
-    let reply = second.check(file, q, lists, count);
+fn demanding(second: &Second, given: Given, q: Question, lists: [Slice; 4], count: u64, demand: &str) -> u64 {
+    let reply = second.check(given, q, lists, count);
     if number(reply) != 0 {
         return reply;
     }
-    let steps = reads(second, file, q, lists, count).unwrap();
-    let known = Known::new(RIGHT, &file.all());
+    let steps = reads(second, given, q, lists, count).unwrap();
+    let known = known(given);
     let Members::Levels(levels) = &*known.members(q.minute) else { return reply };
     let (least, level) = (levels[&q.membership()], reply as usize);
     // Where the level is not what is demanded, it counts as the least.
@@ -210,8 +210,8 @@ fn demanding(second: &Second, file: Slice, q: Question, lists: [Slice; 4], count
     }
 }
 
-fn checker_clears(second: &Second, file: Slice, q: Question, lists: [Slice; 4], count: u64) -> u64 {
-    let reply = second.check(file, q, lists, count);
+fn checker_clears(second: &Second, given: Given, q: Question, lists: [Slice; 4], count: u64) -> u64 {
+    let reply = second.check(given, q, lists, count);
     if number(reply) == 15 {
         zero(&lists);
     }

@@ -1,7 +1,7 @@
 //! Wrong ways to read a file and to complete its table.
 
 use super::{accepted, complete, number, refusal, unwritten, Wrong, RIGHT};
-use crate::calls::{zero, Calls, Second, Slice};
+use crate::calls::{zero, Calls, Given, Second, Slice};
 use crate::reference::completing::{table, written, Table};
 use crate::reference::known::entries;
 use crate::reference::meaning::valid;
@@ -34,16 +34,16 @@ pub const ALL: &[Wrong] = &[
     complete("lists-untouched", |s, f, l| dry(s, f, l), "lists untouched after success"),
 ];
 
-fn dry(second: &Second, file: Slice, lists: [Slice; 3]) -> u64 {
-    unwritten(lists, || second.complete(file, lists))
+fn dry(second: &Second, given: Given, lists: [Slice; 3]) -> u64 {
+    unwritten(lists, || second.complete(given, lists))
 }
 
-fn ends(file: Slice) -> usize {
-    accepted(file).map_or(0, |file| file.ends.len())
+fn ends(given: Given) -> usize {
+    accepted(given).map_or(0, |file| file.ends.len())
 }
 
-fn ten_at_limit(second: &Second, file: Slice, lists: [Slice; 3]) -> u64 {
-    let reply = second.complete(file, lists);
+fn ten_at_limit(second: &Second, given: Given, lists: [Slice; 3]) -> u64 {
+    let reply = second.complete(given, lists);
     if reply == lists[0].length as u64 / 4 && reply > 0 {
         zero(&lists);
         return refusal(10);
@@ -51,29 +51,29 @@ fn ten_at_limit(second: &Second, file: Slice, lists: [Slice; 3]) -> u64 {
     reply
 }
 
-fn ten_clears_roles_only(second: &Second, file: Slice, lists: [Slice; 3]) -> u64 {
-    let reply = dry(second, file, lists);
+fn ten_clears_roles_only(second: &Second, given: Given, lists: [Slice; 3]) -> u64 {
+    let reply = dry(second, given, lists);
     if number(reply) != 10 {
-        return second.complete(file, lists);
+        return second.complete(given, lists);
     }
     zero(&lists[..1]);
     reply
 }
 
 /// Puts a table in the lists where the right call has one.
-fn replaced(second: &Second, file: Slice, lists: [Slice; 3], table: impl FnOnce(File) -> Table) -> u64 {
-    let reply = second.complete(file, lists);
+fn replaced(second: &Second, given: Given, lists: [Slice; 3], table: impl FnOnce(File) -> Table) -> u64 {
+    let reply = second.complete(given, lists);
     if number(reply) != 0 {
         return reply;
     }
-    let table = table(accepted(file).unwrap());
+    let table = table(accepted(given).unwrap());
     lists.iter().zip(written(&table, lists[0].length / 4)).for_each(|(list, bytes)| list.write(&bytes));
     table.len() as u64
 }
 
-fn changed(second: &Second, file: Slice, lists: [Slice; 3], change: fn(&File, u64) -> u64) -> u64 {
+fn changed(second: &Second, given: Given, lists: [Slice; 3], change: fn(&File, u64) -> u64) -> u64 {
     let table = |file: File| table(&RIGHT, &file).unwrap().into_iter().map(|(m, spans)| (m, change(&file, spans))).collect();
-    replaced(second, file, lists, table)
+    replaced(second, given, lists, table)
 }
 
 fn zero_always_an_end(file: &File, spans: u64) -> u64 {
@@ -84,14 +84,14 @@ fn zero_always_an_end(file: &File, spans: u64) -> u64 {
     }
 }
 
-fn ends_listed(file: Slice) -> usize {
-    accepted(file).map_or(0, |file| 2 * file.credentials.len())
+fn ends_listed(given: Given) -> usize {
+    accepted(given).map_or(0, |file| 2 * file.credentials.len())
 }
 
-fn ten_in_a_span(second: &Second, file: Slice, lists: [Slice; 3]) -> u64 {
-    let reply = second.complete(file, lists);
+fn ten_in_a_span(second: &Second, given: Given, lists: [Slice; 3]) -> u64 {
+    let reply = second.complete(given, lists);
     let length = lists[0].length / 4;
-    match accepted(file).and_then(|file| table(&RIGHT, &file)) {
+    match accepted(given).and_then(|file| table(&RIGHT, &file)) {
         Some(table) if number(reply) == 10 && (0..64).all(|i| table.values().filter(|&spans| spans >> i & 1 == 1).count() <= length) => {
             let first: Table = table.into_iter().take(length).collect();
             lists.iter().zip(written(&first, length)).for_each(|(list, bytes)| list.write(&bytes));
@@ -107,8 +107,8 @@ fn own_spans(file: &File, credential: &Credential) -> u64 {
 }
 
 /// All spans of the first premise, whether the second has them or not.
-fn one_premise(second: &Second, file: Slice, lists: [Slice; 3]) -> u64 {
-    replaced(second, file, lists, |file| {
+fn one_premise(second: &Second, given: Given, lists: [Slice; 3]) -> u64 {
+    replaced(second, given, lists, |file| {
         let mut table = Table::new();
         loop {
             let before = table.clone();
@@ -125,8 +125,8 @@ fn one_premise(second: &Second, file: Slice, lists: [Slice; 3]) -> u64 {
 }
 
 /// Each membership with the spans of its first derivation only, credentials in file order until nothing new is found.
-fn first_validity(second: &Second, file: Slice, lists: [Slice; 3]) -> u64 {
-    replaced(second, file, lists, |file| {
+fn first_validity(second: &Second, given: Given, lists: [Slice; 3]) -> u64 {
+    replaced(second, given, lists, |file| {
         let mut table = Table::new();
         loop {
             let before = table.len();
@@ -160,9 +160,9 @@ fn derived(body: Body, table: &Table, own: u64, common: fn(u64, u64) -> u64) -> 
     all
 }
 
-fn tail_not_cleared(second: &Second, file: Slice, lists: [Slice; 3]) -> u64 {
+fn tail_not_cleared(second: &Second, given: Given, lists: [Slice; 3]) -> u64 {
     let before = lists.map(Slice::all);
-    let reply = second.complete(file, lists);
+    let reply = second.complete(given, lists);
     if number(reply) == 0 {
         for (i, list) in lists.iter().enumerate() {
             let held = reply as usize * [4, 4, 8][i];
@@ -172,10 +172,10 @@ fn tail_not_cleared(second: &Second, file: Slice, lists: [Slice; 3]) -> u64 {
     reply
 }
 
-fn not_ascending(second: &Second, file: Slice, lists: [Slice; 3]) -> u64 {
-    let reply = second.complete(file, lists);
+fn not_ascending(second: &Second, given: Given, lists: [Slice; 3]) -> u64 {
+    let reply = second.complete(given, lists);
     if number(reply) == 0 {
-        let table = table(&RIGHT, &accepted(file).unwrap()).unwrap();
+        let table = table(&RIGHT, &accepted(given).unwrap()).unwrap();
         let exchanged: Table = table.into_iter().map(|((role, set), spans)| ((set, role), spans)).collect();
         let [sets, roles, spans] = written(&exchanged, lists[0].length / 4);
         lists.iter().zip([roles, sets, spans]).for_each(|(list, bytes)| list.write(&bytes));
@@ -183,8 +183,8 @@ fn not_ascending(second: &Second, file: Slice, lists: [Slice; 3]) -> u64 {
     reply
 }
 
-fn nine_before_eight(second: &Second, file: Slice, lists: [Slice; 3]) -> u64 {
-    let reply = second.complete(file, lists);
+fn nine_before_eight(second: &Second, given: Given, lists: [Slice; 3]) -> u64 {
+    let reply = second.complete(given, lists);
     let nine = entries(&lists.map(|list| list.length), &[4, 4, 8]).is_err();
     if number(reply) == 8 && nine {
         refusal(9)
@@ -193,9 +193,9 @@ fn nine_before_eight(second: &Second, file: Slice, lists: [Slice; 3]) -> u64 {
     }
 }
 
-fn all_kinds_first(second: &Second, file: Slice, lists: [Slice; 3]) -> u64 {
-    let reply = second.complete(file, lists);
-    let bytes = file.all();
+fn all_kinds_first(second: &Second, given: Given, lists: [Slice; 3]) -> u64 {
+    let reply = second.complete(given, lists);
+    let bytes = given.file.all();
     if matches!(number(reply), 4..=8 | 17) {
         let count = u16::from_le_bytes([bytes[4], bytes[5]]) as u64;
         if let Some(place) = (0..count).find(|&i| bytes[6 + 12 * i as usize] > 5) {
@@ -205,9 +205,9 @@ fn all_kinds_first(second: &Second, file: Slice, lists: [Slice; 3]) -> u64 {
     reply
 }
 
-fn all_periods_first(second: &Second, file: Slice, lists: [Slice; 3]) -> u64 {
-    let reply = second.complete(file, lists);
-    let bytes = file.all();
+fn all_periods_first(second: &Second, given: Given, lists: [Slice; 3]) -> u64 {
+    let reply = second.complete(given, lists);
+    let bytes = given.file.all();
     if matches!(number(reply), 4..=8 | 17) {
         let count = u16::from_le_bytes([bytes[4], bytes[5]]) as usize;
         let period = |i: usize| (word(&bytes[6 + 12 * count + 8 * i..], 0), word(&bytes[6 + 12 * count + 8 * i..], 1));
@@ -218,39 +218,39 @@ fn all_periods_first(second: &Second, file: Slice, lists: [Slice; 3]) -> u64 {
     reply
 }
 
-fn spans_length_ignored(second: &Second, file: Slice, lists: [Slice; 3]) -> u64 {
-    let reply = second.complete(file, lists);
+fn spans_length_ignored(second: &Second, given: Given, lists: [Slice; 3]) -> u64 {
+    let reply = second.complete(given, lists);
     let lengths = [lists[0].length, lists[1].length, 2 * lists[0].length];
     if number(reply) != 9 || entries(&lengths, &[4, 4, 8]).is_err() || lists[2].length < lengths[2] {
         return reply;
     }
     let fitting = Slice { start: lists[2].start, length: lengths[2] };
-    second.complete(file, [lists[0], lists[1], fitting])
+    second.complete(given, [lists[0], lists[1], fitting])
 }
 
-fn length_rounded_down(second: &Second, file: Slice, lists: [Slice; 3]) -> u64 {
+fn length_rounded_down(second: &Second, given: Given, lists: [Slice; 3]) -> u64 {
     let whole = |list: Slice, width: usize| Slice { start: list.start, length: list.length / width * width };
-    second.complete(file, [whole(lists[0], 4), whole(lists[1], 4), whole(lists[2], 8)])
+    second.complete(given, [whole(lists[0], 4), whole(lists[1], 4), whole(lists[2], 8)])
 }
 
-fn always_empty(second: &Second, file: Slice, lists: [Slice; 3]) -> u64 {
-    replaced(second, file, lists, |_| Table::new())
+fn always_empty(second: &Second, given: Given, lists: [Slice; 3]) -> u64 {
+    replaced(second, given, lists, |_| Table::new())
 }
 
-fn cleared_on_refusal(second: &Second, file: Slice, lists: [Slice; 3]) -> u64 {
-    let reply = second.complete(file, lists);
+fn cleared_on_refusal(second: &Second, given: Given, lists: [Slice; 3]) -> u64 {
+    let reply = second.complete(given, lists);
     if number(reply) != 0 {
         zero(&lists);
     }
     reply
 }
 
-fn file_changed(second: &Second, file: Slice, lists: [Slice; 3]) -> u64 {
-    let reply = second.complete(file, lists);
-    let mut bytes = file.all();
+fn file_changed(second: &Second, given: Given, lists: [Slice; 3]) -> u64 {
+    let reply = second.complete(given, lists);
+    let mut bytes = given.file.all();
     if let Some(last) = bytes.last_mut() {
         *last ^= 1;
     }
-    file.write(&bytes);
+    given.file.write(&bytes);
     reply
 }

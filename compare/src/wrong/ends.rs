@@ -1,8 +1,9 @@
 //! Wrong ways to list the ends, and the intervals of a span number.
 
 use super::{accepted, cleared, ends, intervals, number, refusal, unwritten, Wrong, RIGHT};
-use crate::calls::{Calls, Second, Slice};
+use crate::calls::{Calls, Given, Second, Slice};
 use crate::reference::ends::{intervals as right, listed, BYTES};
+use crate::reference::reading::ends as own_ends;
 use crate::reference::Rules;
 
 pub const ALL: &[Wrong] = &[
@@ -65,9 +66,9 @@ fn on_success(reply: u64, change: impl FnOnce(u64) -> u64) -> u64 {
 }
 
 /// Other ends where the right call writes some.
-fn relisted(second: &Second, file: Slice, list: Slice, change: fn(Slice) -> Vec<u32>) -> u64 {
-    on_success(second.ends(file, list), |_| {
-        let mut ends = change(file);
+fn relisted(second: &Second, given: Given, list: Slice, change: fn(Given) -> Vec<u32>) -> u64 {
+    on_success(second.ends(given, list), |_| {
+        let mut ends = change(given);
         ends.truncate(64);
         list.write(&listed(ends.iter().copied()));
         ends.len() as u64
@@ -75,9 +76,9 @@ fn relisted(second: &Second, file: Slice, list: Slice, change: fn(Slice) -> Vec<
 }
 
 /// The ends as the credentials have them, each once, or each but where it follows itself.
-fn file_order(file: Slice, neighbours: bool) -> Vec<u32> {
+fn file_order(given: Given, neighbours: bool) -> Vec<u32> {
     let mut ends = Vec::new();
-    for end in accepted(file).unwrap().credentials.iter().flat_map(|c| [c.from, c.to + 1]) {
+    for end in accepted(given).unwrap().credentials.iter().flat_map(|credential| own_ends(&RIGHT, credential)) {
         let known = if neighbours { ends.last() == Some(&end) } else { ends.contains(&end) };
         if !known {
             ends.push(end);
@@ -86,16 +87,16 @@ fn file_order(file: Slice, neighbours: bool) -> Vec<u32> {
     ends
 }
 
-fn with_zero(file: Slice) -> Vec<u32> {
-    let mut ends = accepted(file).unwrap().ends;
+fn with_zero(given: Given) -> Vec<u32> {
+    let mut ends = accepted(given).unwrap().ends;
     if !ends.contains(&0) {
         ends.insert(0, 0);
     }
     ends
 }
 
-fn first_only(file: Slice) -> Vec<u32> {
-    accepted(file).unwrap().credentials.first().map_or(vec![], |c| vec![c.from, c.to + 1])
+fn first_only(given: Given) -> Vec<u32> {
+    accepted(given).unwrap().credentials.first().map_or(vec![], |credential| own_ends(&RIGHT, credential))
 }
 
 /// The list as it was after the first entries of so many bytes.
@@ -120,9 +121,9 @@ fn in_longer(list: Slice, call: impl FnOnce(Slice) -> u64) -> u64 {
     call(Slice { start: list.start, length: if list.length > BYTES { BYTES } else { list.length } })
 }
 
-fn in_shorter(second: &Second, file: Slice, list: Slice) -> u64 {
-    let reply = second.ends(file, list);
-    match accepted(file).map(|file| file.ends) {
+fn in_shorter(second: &Second, given: Given, list: Slice) -> u64 {
+    let reply = second.ends(given, list);
+    match accepted(given).map(|file| file.ends) {
         Some(ends) if number(reply) == 9 && list.length < BYTES && list.length % 4 == 0 && ends.len() * 4 <= list.length => {
             list.write(&listed(ends.iter().copied())[..list.length]);
             ends.len() as u64
@@ -132,9 +133,9 @@ fn in_shorter(second: &Second, file: Slice, list: Slice) -> u64 {
 }
 
 /// Other intervals where the right call writes some.
-fn rewritten(second: &Second, file: Slice, spans: u64, list: Slice, change: fn(&[u32], u64) -> Vec<(u32, u32)>) -> u64 {
-    on_success(second.intervals(file, spans, list), |_| {
-        let mut intervals = change(&accepted(file).unwrap().ends, spans);
+fn rewritten(second: &Second, given: Given, spans: u64, list: Slice, change: fn(&[u32], u64) -> Vec<(u32, u32)>) -> u64 {
+    on_success(second.intervals(given, spans, list), |_| {
+        let mut intervals = change(&accepted(given).unwrap().ends, spans);
         intervals.truncate(32);
         list.write(&listed(intervals.iter().flat_map(|&(from, to)| [from, to])));
         intervals.len() as u64
@@ -162,19 +163,19 @@ fn falling(ends: &[u32], spans: u64) -> Vec<(u32, u32)> {
     right(ends, spans).unwrap().into_iter().rev().collect()
 }
 
-fn spans_counted(second: &Second, file: Slice, spans: u64, list: Slice) -> u64 {
-    on_success(second.intervals(file, spans, list), |_| spans.count_ones() as u64)
+fn spans_counted(second: &Second, given: Given, spans: u64, list: Slice) -> u64 {
+    on_success(second.intervals(given, spans, list), |_| spans.count_ones() as u64)
 }
 
 /// The bits of a number that are among the spans of an accepted file, and some more.
-fn within(file: Slice, spans: u64, more: usize) -> u64 {
-    let count = accepted(file).map_or(63, |file| file.ends.len().saturating_sub(1));
+fn within(given: Given, spans: u64, more: usize) -> u64 {
+    let count = accepted(given).map_or(63, |file| file.ends.len().saturating_sub(1));
     (0..64).filter(|&i| i < count + more && spans >> i & 1 == 1).map(|i| 1 << i).sum()
 }
 
-fn eleven_before_nine(second: &Second, file: Slice, spans: u64, list: Slice) -> u64 {
-    let reply = second.intervals(file, spans, list);
-    if number(reply) == 9 && within(file, spans, 0) != spans {
+fn eleven_before_nine(second: &Second, given: Given, spans: u64, list: Slice) -> u64 {
+    let reply = second.intervals(given, spans, list);
+    if number(reply) == 9 && within(given, spans, 0) != spans {
         return refusal(11);
     }
     reply

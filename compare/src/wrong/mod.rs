@@ -6,17 +6,18 @@ mod completing;
 mod ends;
 mod querying;
 mod serials;
+mod withdrawals;
 
-use crate::calls::{zero, Call, Calls, Second, Slice};
-use crate::reference::known::Question;
-use crate::reference::reading::{read, File};
+use crate::calls::{zero, Call, Calls, Given, Second, Slice};
+use crate::reference::known::{Known, Question};
+use crate::reference::reading::File;
 use crate::reference::{Rules, RIGHT};
 
-type Completing = fn(&Second, Slice, [Slice; 3]) -> u64;
-type Querying = fn(&Second, Slice, Question, [Slice; 4]) -> u64;
-type Checking = fn(&Second, Slice, Question, [Slice; 4], u64) -> u64;
-type Ends = fn(&Second, Slice, Slice) -> u64;
-type Intervals = fn(&Second, Slice, u64, Slice) -> u64;
+type Completing = fn(&Second, Given, [Slice; 3]) -> u64;
+type Querying = fn(&Second, Given, Question, [Slice; 4]) -> u64;
+type Checking = fn(&Second, Given, Question, [Slice; 4], u64) -> u64;
+type Ends = fn(&Second, Given, Slice) -> u64;
+type Intervals = fn(&Second, Given, u64, Slice) -> u64;
 type Carrying = fn(&Second, Slice, Slice) -> u64;
 
 /// The second implementation with other rules, or with another call around one of its calls.
@@ -24,6 +25,8 @@ type Carrying = fn(&Second, Slice, Slice) -> u64;
 pub struct Wrong {
     pub name: &'static str,
     pub what: &'static str,
+    /// Whether it is wrong about withdrawal lists.
+    pub withdraws: bool,
     rules: Rules,
     complete: Completing,
     query: Querying,
@@ -39,24 +42,24 @@ impl Calls for Wrong {
         true
     }
 
-    fn complete(&self, file: Slice, lists: [Slice; 3]) -> u64 {
-        (self.complete)(&Second { rules: self.rules }, file, lists)
+    fn complete(&self, given: Given, lists: [Slice; 3]) -> u64 {
+        (self.complete)(&Second { rules: self.rules }, given, lists)
     }
 
-    fn query(&self, file: Slice, q: Question, lists: [Slice; 4]) -> u64 {
-        (self.query)(&Second { rules: self.rules }, file, q, lists)
+    fn query(&self, given: Given, q: Question, lists: [Slice; 4]) -> u64 {
+        (self.query)(&Second { rules: self.rules }, given, q, lists)
     }
 
-    fn check(&self, file: Slice, q: Question, lists: [Slice; 4], count: u64) -> u64 {
-        (self.check)(&Second { rules: self.rules }, file, q, lists, count)
+    fn check(&self, given: Given, q: Question, lists: [Slice; 4], count: u64) -> u64 {
+        (self.check)(&Second { rules: self.rules }, given, q, lists, count)
     }
 
-    fn ends(&self, file: Slice, list: Slice) -> u64 {
-        (self.ends)(&Second { rules: self.rules }, file, list)
+    fn ends(&self, given: Given, list: Slice) -> u64 {
+        (self.ends)(&Second { rules: self.rules }, given, list)
     }
 
-    fn intervals(&self, file: Slice, spans: u64, list: Slice) -> u64 {
-        (self.intervals)(&Second { rules: self.rules }, file, spans, list)
+    fn intervals(&self, given: Given, spans: u64, list: Slice) -> u64 {
+        (self.intervals)(&Second { rules: self.rules }, given, spans, list)
     }
 
     fn forward(&self, old: Slice, list: Slice) -> u64 {
@@ -71,6 +74,7 @@ impl Calls for Wrong {
 const NOT_WRONG: Wrong = Wrong {
     name: "",
     what: "",
+    withdraws: false,
     rules: RIGHT,
     complete: Second::complete,
     query: Second::query,
@@ -171,7 +175,9 @@ const SUM_TESTED: Rules =
 
 /// Every wrong variant.
 pub fn all() -> Vec<Wrong> {
-    [RULES, serials::ALL, completing::ALL, querying::ALL, checking::ALL, ends::ALL, carrying::ALL].concat()
+    let withdrawing = withdrawals::ALL.iter().map(|wrong| Wrong { withdraws: true, ..*wrong });
+    let others = [RULES, serials::ALL, completing::ALL, querying::ALL, checking::ALL, ends::ALL, carrying::ALL];
+    others.concat().into_iter().chain(withdrawing).collect()
 }
 
 fn number(reply: u64) -> u64 {
@@ -191,8 +197,12 @@ fn refusal(number: u64) -> u64 {
     number << 32
 }
 
-fn accepted(file: Slice) -> Option<File> {
-    read(&RIGHT, &file.all()).ok()
+fn known(given: Given) -> Known {
+    Known::new(RIGHT, &given.file.all(), &given.withdrawals.all())
+}
+
+fn accepted(given: Given) -> Option<File> {
+    known(given).read.ok()
 }
 
 /// The list cleared after a refusal.

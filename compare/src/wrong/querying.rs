@@ -1,9 +1,9 @@
 //! Wrong ways to query.
 
-use super::{accepted, number, on, query, refusal, unwritten, Wrong, RIGHT};
-use crate::calls::{write_steps, zero, Calls, Second, Slice};
+use super::{accepted, known, number, on, query, refusal, unwritten, Wrong, RIGHT};
+use crate::calls::{write_steps, zero, Calls, Given, Second, Slice};
 use crate::reference::checking::{all_shown, Shown, Step};
-use crate::reference::known::{steps, Known, Question};
+use crate::reference::known::{steps, Question};
 use crate::reference::meaning::{valid, Members};
 use crate::reference::querying::proof;
 use crate::reference::reading::{Body, File};
@@ -40,14 +40,14 @@ fn exchanged(reply: u64) -> u64 {
 }
 
 /// The right call, and the proof in the lists changed where the new one fits.
-pub fn rewritten(second: &Second, file: Slice, q: Question, lists: [Slice; 4], change: impl Fn(&File, u32, &[Step]) -> Vec<Step>) -> u64 {
-    let reply = second.query(file, q, lists);
+pub fn rewritten(second: &Second, given: Given, q: Question, lists: [Slice; 4], change: impl Fn(&File, u32, &[Step]) -> Vec<Step>) -> u64 {
+    let reply = second.query(given, q, lists);
     if number(reply) != 0 {
         return reply;
     }
     let bytes = lists.map(Slice::all);
     let own = steps(&[&bytes[0], &bytes[1], &bytes[2], &bytes[3]], reply as usize % 65_536);
-    let new = change(&accepted(file).unwrap(), q.minute, &own);
+    let new = change(&accepted(given).unwrap(), q.minute, &own);
     if 4 * new.len() > lists[0].length {
         return reply;
     }
@@ -90,12 +90,12 @@ fn uses(body: Body, shown: &[Shown]) -> Vec<(usize, usize, u32)> {
     }
 }
 
-fn not_least(second: &Second, file: Slice, q: Question, lists: [Slice; 4]) -> u64 {
-    let reply = second.query(file, q, lists);
+fn not_least(second: &Second, given: Given, q: Question, lists: [Slice; 4]) -> u64 {
+    let reply = second.query(given, q, lists);
     if number(reply) != 0 {
         return reply;
     }
-    let read = accepted(file).unwrap();
+    let read = accepted(given).unwrap();
     let (all, shown) = found(&read, q.minute);
     let Some(place) = shown.iter().position(|&(membership, _)| membership == q.membership()) else { return reply };
     let mut kept = Vec::new();
@@ -130,8 +130,8 @@ fn thirteen(lists: [Slice; 4]) -> u64 {
     refusal(13)
 }
 
-fn thirteen_early(second: &Second, file: Slice, q: Question, lists: [Slice; 4]) -> u64 {
-    let reply = second.query(file, q, lists);
+fn thirteen_early(second: &Second, given: Given, q: Question, lists: [Slice; 4]) -> u64 {
+    let reply = second.query(given, q, lists);
     if number(reply) == 0 && reply / 65_536 > 4 {
         thirteen(lists)
     } else {
@@ -139,19 +139,19 @@ fn thirteen_early(second: &Second, file: Slice, q: Question, lists: [Slice; 4]) 
     }
 }
 
-fn levels(file: Slice, minute: u32) -> Option<BTreeMap<Membership, usize>> {
-    match &*Known::new(RIGHT, &file.all()).members(minute) {
+fn levels(given: Given, minute: u32) -> Option<BTreeMap<Membership, usize>> {
+    match &*known(given).members(minute) {
         Members::Levels(levels) => Some(levels.clone()),
         Members::TooMany => None,
     }
 }
 
-fn role_unchanged(second: &Second, file: Slice, q: Question, lists: [Slice; 4]) -> u64 {
-    let reply = second.query(file, q, lists);
+fn role_unchanged(second: &Second, given: Given, q: Question, lists: [Slice; 4]) -> u64 {
+    let reply = second.query(given, q, lists);
     if number(reply) != 0 {
         return reply;
     }
-    let levels = levels(file, q.minute).unwrap();
+    let levels = levels(given, q.minute).unwrap();
     let changed = |k: usize| levels.iter().any(|(&(role, _), &level)| role == q.role && level == k);
     let first = (1..).find(|&k| changed(k)).unwrap();
     let all = (first..reply as usize / 65_536).all(changed);
@@ -162,19 +162,19 @@ fn role_unchanged(second: &Second, file: Slice, q: Question, lists: [Slice; 4]) 
     }
 }
 
-fn thirteen_not_cleared(second: &Second, file: Slice, q: Question, lists: [Slice; 4]) -> u64 {
-    let reply = unwritten(lists, || second.query(file, q, lists));
+fn thirteen_not_cleared(second: &Second, given: Given, q: Question, lists: [Slice; 4]) -> u64 {
+    let reply = unwritten(lists, || second.query(given, q, lists));
     if number(reply) == 13 {
         reply
     } else {
-        second.query(file, q, lists)
+        second.query(given, q, lists)
     }
 }
 
-fn ten_over_all_minutes(second: &Second, file: Slice, q: Question, lists: [Slice; 4]) -> u64 {
-    let reply = second.query(file, q, lists);
+fn ten_over_all_minutes(second: &Second, given: Given, q: Question, lists: [Slice; 4]) -> u64 {
+    let reply = second.query(given, q, lists);
     if [0, 13].contains(&number(reply)) {
-        let known = Known::new(RIGHT, &file.all());
+        let known = known(given);
         if known.table().map_or(true, |table| 4 * table.len() > lists[0].length) {
             zero(&lists);
             return refusal(10);
@@ -183,9 +183,9 @@ fn ten_over_all_minutes(second: &Second, file: Slice, q: Question, lists: [Slice
     reply
 }
 
-fn thirteen_before_ten(second: &Second, file: Slice, q: Question, lists: [Slice; 4]) -> u64 {
-    let reply = second.query(file, q, lists);
-    let held = || levels(file, q.minute).map_or(true, |levels| levels.contains_key(&q.membership()));
+fn thirteen_before_ten(second: &Second, given: Given, q: Question, lists: [Slice; 4]) -> u64 {
+    let reply = second.query(given, q, lists);
+    let held = || levels(given, q.minute).map_or(true, |levels| levels.contains_key(&q.membership()));
     if number(reply) == 10 && !held() {
         refusal(13)
     } else {
@@ -193,14 +193,14 @@ fn thirteen_before_ten(second: &Second, file: Slice, q: Question, lists: [Slice;
     }
 }
 
-fn proof_despite_ten(second: &Second, file: Slice, q: Question, lists: [Slice; 4]) -> u64 {
-    let reply = second.query(file, q, lists);
+fn proof_despite_ten(second: &Second, given: Given, q: Question, lists: [Slice; 4]) -> u64 {
+    let reply = second.query(given, q, lists);
     if number(reply) != 10 {
         return reply;
     }
-    let Some(levels) = levels(file, q.minute) else { return reply };
+    let Some(levels) = levels(given, q.minute) else { return reply };
     let Some(&level) = levels.get(&q.membership()) else { return reply };
-    let steps = proof(&RIGHT, &accepted(file).unwrap(), q.minute, &levels, q.membership());
+    let steps = proof(&RIGHT, &accepted(given).unwrap(), q.minute, &levels, q.membership());
     if 4 * steps.len() > lists[0].length {
         return reply;
     }
@@ -208,9 +208,9 @@ fn proof_despite_ten(second: &Second, file: Slice, q: Question, lists: [Slice; 4
     steps.len() as u64 + level as u64 * 65_536
 }
 
-fn query_ten_at_limit(second: &Second, file: Slice, q: Question, lists: [Slice; 4]) -> u64 {
-    let reply = second.query(file, q, lists);
-    if [0, 13].contains(&number(reply)) && levels(file, q.minute).map_or(false, |levels| 4 * levels.len() == lists[0].length) {
+fn query_ten_at_limit(second: &Second, given: Given, q: Question, lists: [Slice; 4]) -> u64 {
+    let reply = second.query(given, q, lists);
+    if [0, 13].contains(&number(reply)) && levels(given, q.minute).map_or(false, |levels| 4 * levels.len() == lists[0].length) {
         zero(&lists);
         return refusal(10);
     }
@@ -245,9 +245,9 @@ fn citations_exchanged(_: &File, _: u32, own: &[Step]) -> Vec<Step> {
     own.iter().map(|&step| Step { first: step.second, second: step.first, ..step }).collect()
 }
 
-fn query_tail_left(second: &Second, file: Slice, q: Question, lists: [Slice; 4]) -> u64 {
+fn query_tail_left(second: &Second, given: Given, q: Question, lists: [Slice; 4]) -> u64 {
     let before = lists.map(Slice::all);
-    let reply = second.query(file, q, lists);
+    let reply = second.query(given, q, lists);
     if number(reply) == 0 {
         let held = 4 * (reply as usize % 65_536);
         lists.iter().zip(before).for_each(|(list, before)| list.write(&[&list.all()[..held], &before[held..]].concat()));
@@ -255,8 +255,8 @@ fn query_tail_left(second: &Second, file: Slice, q: Question, lists: [Slice; 4])
     reply
 }
 
-fn twelve_before_eleven(second: &Second, file: Slice, q: Question, lists: [Slice; 4]) -> u64 {
-    let reply = second.query(file, q, lists);
+fn twelve_before_eleven(second: &Second, given: Given, q: Question, lists: [Slice; 4]) -> u64 {
+    let reply = second.query(given, q, lists);
     if number(reply) == 11 && q.minute == u32::MAX {
         refusal(12)
     } else {
@@ -264,19 +264,19 @@ fn twelve_before_eleven(second: &Second, file: Slice, q: Question, lists: [Slice
     }
 }
 
-fn name_against_32(second: &Second, file: Slice, q: Question, lists: [Slice; 4]) -> u64 {
-    let reply = second.query(file, q, lists);
+fn name_against_32(second: &Second, given: Given, q: Question, lists: [Slice; 4]) -> u64 {
+    let reply = second.query(given, q, lists);
     let only_name = |file: File| q.role / 32 < file.entities && q.set > 0 && (q.set as u64) < 1 << file.entities && q.minute < u32::MAX;
-    if number(reply) == 11 && accepted(file).is_some_and(only_name) {
+    if number(reply) == 11 && accepted(given).is_some_and(only_name) {
         thirteen(lists)
     } else {
         reply
     }
 }
 
-fn empty_set_asked(second: &Second, file: Slice, q: Question, lists: [Slice; 4]) -> u64 {
-    let reply = second.query(file, q, lists);
-    if number(reply) == 11 && q.set == 0 && number(second.query(file, Question { set: 1, ..q }, lists)) != 11 {
+fn empty_set_asked(second: &Second, given: Given, q: Question, lists: [Slice; 4]) -> u64 {
+    let reply = second.query(given, q, lists);
+    if number(reply) == 11 && q.set == 0 && number(second.query(given, Question { set: 1, ..q }, lists)) != 11 {
         thirteen(lists)
     } else {
         reply

@@ -3,10 +3,10 @@
 use super::checking::{instead, reads};
 use super::querying::rewritten;
 use super::{accepted, check, cleared, complete, ends, intervals, number, query, refusal, rules, unwritten, Wrong, RIGHT};
-use crate::calls::{zero, Calls, Second, Slice};
+use crate::calls::{zero, Calls, Given, Second, Slice};
 use crate::reference::checking::Step;
 use crate::reference::known::Question;
-use crate::reference::reading::{read, word, File};
+use crate::reference::reading::{credentials, read, word, File};
 use crate::reference::{Refusal, Rules};
 
 pub const ALL: &[Wrong] = &[
@@ -43,11 +43,11 @@ pub const ALL: &[Wrong] = &[
     rules("serial-zero-lower", tests(|earlier, x| x & 0xFFFF == 0 || earlier.contains(&x)), "zero in the lower 16 bits refused"),
     rules("serial-31-bits", tests(|earlier, x| taken_by(earlier, x, |y| y & 0x7FFF_FFFF)), "the highest bit ignored"),
     rules("serial-byte-twice", tests(|earlier, x| taken_by(earlier, x, byte_twice)), "the second byte in the place of the third"),
-    rules("serial-at-7", Rules { reads: |_, bytes| read(&RIGHT, &moved(bytes, 7)), ..RIGHT }, "read a byte too early"),
-    rules("serial-at-9", Rules { reads: |_, bytes| read(&RIGHT, &moved(bytes, 9)), ..RIGHT }, "read a byte too late"),
-    rules("serial-of-the-next", Rules { reads: |_, bytes| read(&RIGHT, &moved(bytes, 20)), ..RIGHT }, "read from the next credential"),
-    rules("serials-apart", Rules { reads: |_, bytes| read(&RIGHT, &apart(bytes)), ..RIGHT }, "serials read after all statements"),
-    rules("periods-old-offset", Rules { reads: |_, bytes| read(&RIGHT, &periods_from(bytes, 8)), ..RIGHT }, "periods read at the old offset"),
+    rules("serial-at-7", Rules { reads: |_, bytes| credentials(&RIGHT, &moved(bytes, 7)), ..RIGHT }, "read a byte too early"),
+    rules("serial-at-9", Rules { reads: |_, bytes| credentials(&RIGHT, &moved(bytes, 9)), ..RIGHT }, "read a byte too late"),
+    rules("serial-of-the-next", Rules { reads: |_, bytes| credentials(&RIGHT, &moved(bytes, 20)), ..RIGHT }, "read from the next credential"),
+    rules("serials-apart", Rules { reads: |_, bytes| credentials(&RIGHT, &apart(bytes)), ..RIGHT }, "serials read after all statements"),
+    rules("periods-old-offset", Rules { reads: |_, bytes| credentials(&RIGHT, &periods_from(bytes, 8)), ..RIGHT }, "periods read at the old offset"),
     rules("old-files-read", Rules { reads: old_read, ..RIGHT }, "a file without serials read, with position plus one"),
     rules("seventeen-before-seven", Rules { reads: |_, bytes| sooner(bytes, 7), ..RIGHT }, "17 before 7"),
     rules("seventeen-before-six", Rules { reads: |_, bytes| sooner(bytes, 6), ..RIGHT }, "17 before 6 and 7"),
@@ -154,11 +154,11 @@ fn periods_from(bytes: &[u8], statement: usize) -> Vec<u8> {
 }
 
 fn old_read(_: &Rules, bytes: &[u8]) -> Result<File, Refusal> {
-    match read(&RIGHT, bytes) {
+    match credentials(&RIGHT, bytes) {
         Err(Refusal { number: 3, .. }) => {
             let count = u16::from_le_bytes([bytes[4], bytes[5]]) as usize;
             if bytes.len() != 6 + 16 * count {
-                return read(&RIGHT, bytes);
+                return credentials(&RIGHT, bytes);
             }
             let mut new = bytes[..6].to_vec();
             for i in 0..count {
@@ -166,7 +166,7 @@ fn old_read(_: &Rules, bytes: &[u8]) -> Result<File, Refusal> {
                 new.extend((i as u32 + 1).to_le_bytes());
             }
             new.extend(&bytes[6 + 8 * count..]);
-            read(&RIGHT, &new)
+            credentials(&RIGHT, &new)
         }
         other => other,
     }
@@ -174,7 +174,7 @@ fn old_read(_: &Rules, bytes: &[u8]) -> Result<File, Refusal> {
 
 /// 17 of a credential before its refusals from this number to 7.
 fn sooner(bytes: &[u8], from: u32) -> Result<File, Refusal> {
-    match read(&RIGHT, bytes) {
+    match credentials(&RIGHT, bytes) {
         Err(Refusal { number, place }) if (from..=7).contains(&number) => {
             let serials = serials(bytes);
             let at = place as usize;
@@ -186,7 +186,7 @@ fn sooner(bytes: &[u8], from: u32) -> Result<File, Refusal> {
 
 /// 17 after all other refusals up to this number.
 fn later(bytes: &[u8], to: u32) -> Result<File, Refusal> {
-    match read(&RIGHT, bytes) {
+    match credentials(&RIGHT, bytes) {
         Err(seventeen) if seventeen.number == 17 => match read(&UNJUDGED, bytes) {
             Err(refusal) if refusal.number <= to => Err(refusal),
             _ => Err(seventeen),
@@ -196,7 +196,7 @@ fn later(bytes: &[u8], to: u32) -> Result<File, Refusal> {
 }
 
 fn after_next(_: &Rules, bytes: &[u8]) -> Result<File, Refusal> {
-    match read(&RIGHT, bytes) {
+    match credentials(&RIGHT, bytes) {
         Err(seventeen) if seventeen.number == 17 => match read(&UNJUDGED, bytes) {
             Err(refusal) if refusal.number <= 7 && refusal.place == seventeen.place + 1 => Err(refusal),
             _ => Err(seventeen),
@@ -207,7 +207,7 @@ fn after_next(_: &Rules, bytes: &[u8]) -> Result<File, Refusal> {
 
 /// 17 with another place.
 fn placed(bytes: &[u8], place: fn(&[u32], usize) -> u32) -> Result<File, Refusal> {
-    read(&RIGHT, bytes).map_err(|refusal| match refusal.number {
+    credentials(&RIGHT, bytes).map_err(|refusal| match refusal.number {
         17 => Refusal { number: 17, place: place(&serials(bytes), refusal.place as usize) },
         _ => refusal,
     })
@@ -222,14 +222,14 @@ fn last_place(serials: &[u32], _: usize) -> u32 {
 }
 
 fn struck(_: &Rules, bytes: &[u8]) -> Result<File, Refusal> {
-    let mut file = read(&tests(|_, serial| serial == 0), bytes)?;
+    let mut file = credentials(&tests(|_, serial| serial == 0), bytes)?;
     let mut known = std::collections::BTreeSet::new();
     file.credentials.retain(|credential| known.insert(credential.serial));
     Ok(file)
 }
 
 fn by_serial(_: &Rules, bytes: &[u8]) -> Result<File, Refusal> {
-    let mut file = read(&RIGHT, bytes)?;
+    let mut file = credentials(&RIGHT, bytes)?;
     file.credentials.sort_by_key(|credential| credential.serial);
     Ok(file)
 }
@@ -241,8 +241,8 @@ fn emptied(lists: &[Slice], reply: u64) -> u64 {
     reply
 }
 
-fn nine_first(second: &Second, file: Slice, lists: [Slice; 3]) -> u64 {
-    let reply = second.complete(file, lists);
+fn nine_first(second: &Second, given: Given, lists: [Slice; 3]) -> u64 {
+    let reply = second.complete(given, lists);
     let nine = crate::reference::known::entries(&lists.map(|list| list.length), &[4, 4, 8]).is_err();
     if number(reply) == 17 && nine {
         refusal(9)
@@ -264,30 +264,30 @@ fn first(reply: u64, wanted: u64, unjudged: impl FnOnce() -> u64) -> u64 {
     }
 }
 
-fn query_first(second: &Second, file: Slice, q: Question, lists: [Slice; 4], wanted: u64) -> u64 {
-    let unjudged = || unwritten(lists, || Second { rules: UNJUDGED }.query(file, q, lists));
-    first(second.query(file, q, lists), wanted, unjudged)
+fn query_first(second: &Second, given: Given, q: Question, lists: [Slice; 4], wanted: u64) -> u64 {
+    let unjudged = || unwritten(lists, || Second { rules: UNJUDGED }.query(given, q, lists));
+    first(second.query(given, q, lists), wanted, unjudged)
 }
 
-fn check_first(second: &Second, file: Slice, q: Question, lists: [Slice; 4], count: u64, wanted: u64) -> u64 {
-    first(second.check(file, q, lists, count), wanted, || Second { rules: UNJUDGED }.check(file, q, lists, count))
+fn check_first(second: &Second, given: Given, q: Question, lists: [Slice; 4], count: u64, wanted: u64) -> u64 {
+    first(second.check(given, q, lists, count), wanted, || Second { rules: UNJUDGED }.check(given, q, lists, count))
 }
 
-fn intervals_first(second: &Second, file: Slice, spans: u64, list: Slice, wanted: u64) -> u64 {
-    let unjudged = || unwritten([list], || Second { rules: UNJUDGED }.intervals(file, spans, list));
-    first(second.intervals(file, spans, list), wanted, unjudged)
+fn intervals_first(second: &Second, given: Given, spans: u64, list: Slice, wanted: u64) -> u64 {
+    let unjudged = || unwritten([list], || Second { rules: UNJUDGED }.intervals(given, spans, list));
+    first(second.intervals(given, spans, list), wanted, unjudged)
 }
 
 fn by_serials(file: &File, own: &[Step]) -> Vec<Step> {
     own.iter().map(|&step| Step { credential: file.credentials[step.credential as usize].serial, ..step }).collect()
 }
 
-fn cited_by_serial(second: &Second, file: Slice, q: Question, lists: [Slice; 4], count: u64) -> u64 {
-    let Some(mut steps) = reads(second, file, q, lists, count) else { return second.check(file, q, lists, count) };
-    let read = accepted(file).unwrap();
+fn cited_by_serial(second: &Second, given: Given, q: Question, lists: [Slice; 4], count: u64) -> u64 {
+    let Some(mut steps) = reads(second, given, q, lists, count) else { return second.check(given, q, lists, count) };
+    let read = accepted(given).unwrap();
     for step in &mut steps {
         let place = read.credentials.iter().position(|credential| credential.serial == step.credential);
         step.credential = place.map_or(u32::MAX, |place| place as u32);
     }
-    instead(second, file, q, &steps)
+    instead(second, given, q, &steps)
 }

@@ -16,11 +16,11 @@ use Rattle.meaning.proofs.Bits.{bit-below-two, bit-above, bits-below}
 use Rattle.file.specs.declared.Refusal.{Refusal}
 use Rattle.file.specs.Refusals.{RefusalRow, Outcome, done, refused, first}
 use Rattle.file.specs.Values.{refusalOf, firstRefusal}
-use Rattle.file.specs.Format.{E, R, N}
-use Rattle.file.specs.Reading.{headRows, checkRows, credentialsRows, endsRow, reading}
+use Rattle.file.specs.Reading.{headRows, checkRows, credentialsRows}
 use Rattle.file.proofs.First.{after, numbered, noneHolds, first-append, first-clear, first-holds, holds-first, numbered-append, not-not}
-use Rattle.file.proofs.Refusals.{accepted-read, accepted-exact}
-use Rattle.survey.proofs.Surveying.{reading-numbered}
+use Rattle.withdrawals.specs.Source.{Source, E, R, N, listRows, endsRow, reading}
+use Rattle.withdrawals.proofs.Credentials.{reading-numbered}
+use Rattle.withdrawals.proofs.Refusals.{accepted-read, accepted-exact}
 use Rattle.asking.specs.Asking.{Request, StepLists, oneLength, within, requestRows, asking, Askable}
 use Rattle.asking.specs.Conditions.{ofRequest}
 
@@ -79,15 +79,15 @@ rows-passed {B} rows more b e =
 abbrev requestRow : RefusalRow → Bool
 requestRow r = ofRequest (r .number)
 
-reading-numbers : (f : List ℕ) → T (all requestRow (reading f))
+reading-numbers : (f : Source) → T (all requestRow (reading f))
 unfolding reading
 reading-numbers f =
-    all-append requestRow (headRows f) (credentialsRows f ++ endsRow f ∷ []) tt
-    (all-append requestRow (credentialsRows f) (endsRow f ∷ []) (all-each requestRow (checkRows f) (below (N f)) (λ i. tt)) tt)
+    all-append requestRow (headRows (f .file)) (credentialsRows (f .file) ++ (listRows f ++ endsRow f ∷ [])) tt
+    (all-append requestRow (credentialsRows (f .file)) (listRows f ++ endsRow f ∷ []) (all-each requestRow (checkRows (f .file)) (below (N f)) (λ i. tt)) tt)
 
 -- ---- a request
 
-module _ (f : List ℕ) (q : Request) (t : StepLists) where
+module _ (f : Source) (q : Request) (t : StepLists) where
   asking-numbered : T (numbered (asking f q t))
   unfolding asking
   asking-numbered = numbered-append (reading f) (requestRows f q t) (reading-numbered f) tt
@@ -136,7 +136,7 @@ module _ (f : List ℕ) (q : Request) (t : StepLists) where
           minute = λ i. T-not (eqb (q .minute) 4294967295) (and-left m true (and-right (not (not (w && s))) (m && true) v)) (eq-in _ _ i);
         }
 
-    -- A refusal of the request is one of a file's, 9, 11 or 12; so it is neither 10 nor 13, which clear lists.
+    -- A refusal of the request is one of a file's with its withdrawals, 9, 11 or 12; so it is neither 10 nor 13, which clear lists.
     pub asked-number : (r .number ≡ 0 → ⊥) → T (ofRequest (r .number))
     asked-number h =
         first-number {A = ℕ} ofRequest (asking f q t ++ []) 0 {n = r .number} {p = r .place} (all-append requestRow (asking f q t) [] asking-numbers tt) (asked-refused h {B = ℕ} [] 0)
@@ -146,7 +146,7 @@ module _ (f : List ℕ) (q : Request) (t : StepLists) where
 
 -- ---- within the file's numbers
 
-module _ (f : List ℕ) (Ar X : ℕ) where
+module _ (f : Source) (Ar X : ℕ) where
   -- issuer, name and every entity of the set
   abbrev pub Within : Type 0
   Within = (Ar / 32 < E f) × (Ar % 32 < R f) × ((e : ℕ) → bit X e ≡ 1 → e < E f)

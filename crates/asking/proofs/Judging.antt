@@ -9,19 +9,18 @@ use lib.Dec.{eqb, ltb}
 use Rattle.meaning.specs.Table.{ends}
 use Rattle.file.specs.declared.Refusal.{Refusal}
 use Rattle.file.specs.Values.{firstRefusal}
-use Rattle.file.specs.Format.{credentials}
-use Rattle.file.specs.Reading.{reading}
-use Rattle.file.specs.Conditions.{Accepted}
 use Rattle.file.proofs.First.{refusal-any, first-clear, refusal-stopped, refusal-passed}
-use Rattle.file.proofs.Refusals.{accepted-exact}
 use Rattle.survey.specs.declared.Summary.{Summary}
 use Rattle.survey.specs.Surveying.{Surveyed}
-use Rattle.survey.proofs.Surveying.{reading-numbered}
+use Rattle.withdrawals.specs.Source.{Source, credentials, reading}
+use Rattle.withdrawals.specs.Conditions.{Accepted}
+use Rattle.withdrawals.proofs.Credentials.{reading-numbered}
+use Rattle.withdrawals.proofs.Refusals.{accepted-exact}
 use Rattle.asking.specs.declared.Admission.{Admission}
 use Rattle.asking.specs.Asking.{Request, StepLists, oneLength, within, requestRows, asking}
 use Rattle.asking.specs.Admitting.{Admits}
 
-module _ (f : List ℕ) (q : Request) (t : StepLists) (p es : List ℕ) (s : Summary) (u : Surveyed f p es s) where
+module _ (f : Source) (q : Request) (t : StepLists) (p es : List ℕ) (s : Summary) (u : Surveyed f p es s) where
   -- a refusal admits no policy
   refuses : {r : Admission} (number place : ℕ) → (number ≡ 0 → ⊥) → firstRefusal (asking f q t) ≡ record { number = number; place = place }
       → r ≡ record { number = number; place = place; credentials = 0 } → Admits f q t p r
@@ -34,7 +33,7 @@ module _ (f : List ℕ) (q : Request) (t : StepLists) (p es : List ℕ) (s : Sum
   number-of : firstRefusal (reading f) .number ≡ s .number
   number-of = ap (λ (x : Refusal). x .number) reading-refusal
 
-  -- 1 to 8 and 17
+  -- 1 to 8, 17, 20 and 21
   pub file-refused : {r : Admission} → (s .number ≡ 0 → ⊥) → r ≡ record { number = s .number; place = s .place; credentials = 0 } → Admits f q t p r
   unfolding asking
   file-refused h =
@@ -45,7 +44,7 @@ module _ (f : List ℕ) (q : Request) (t : StepLists) (p es : List ℕ) (s : Sum
     accepted = accepted-exact {A = ℕ} 0 f .0 (first-clear (reading f) 0 (reading-numbered f) (number-of ∙ none))
 
     pub entities-few : s .entities ≤ 32
-    entities-few = omega (arith, u .entities none, accepted .head .limits .entities .1)
+    entities-few = omega (arith, u .entities none, accepted .readable .head .limits .entities .1)
 
     passed : firstRefusal (asking f q t) ≡ firstRefusal (requestRows f q t)
     unfolding asking

@@ -10,10 +10,12 @@ use lib.ListN.{length}
 use Rattle.meaning.specs.Lists.{all}
 use Rattle.meaning.proofs.Tests.{and-in, and-left, and-right, is-true, eq-in}
 use Rattle.file.specs.Refusals.{RefusalRow, Outcome, done, refused, first, _when_}
-use Rattle.file.specs.Reading.{between, reading}
-use Rattle.file.specs.Conditions.{Accepted}
+use Rattle.file.specs.Reading.{between}
 use Rattle.file.proofs.First.{after, first-append}
-use Rattle.file.proofs.Refusals.{pass, give, accepted-read, refused-read, not-of-file, Verdict, verdict, by-test}
+use Rattle.file.proofs.Refusals.{pass, give, by-test}
+use Rattle.withdrawals.specs.Source.{Source, reading}
+use Rattle.withdrawals.specs.Conditions.{Accepted}
+use Rattle.withdrawals.proofs.Refusals.{accepted-read, refused-read, not-of-source, Verdict, verdict}
 use Rattle.asking.specs.Asking.{Request, StepLists, size, oneLength, within, requestRows, asking, Askable}
 use Rattle.asking.specs.Conditions.{OneLength, Numbers, RefusedRequest, file, lengths, numbers, minute}
 use Rattle.asking.proofs.Asked.{first-number, asking-done, askable-passes, within-bits}
@@ -33,7 +35,7 @@ module _ (t : StepLists) where
       (and-in (eqb (length (t .first)) (size t)) (eqb (length (t .second)) (size t)) (eq-in _ _ (o .first)) (eq-in _ _ (o .second))) (eq-in _ _ (o .sets)))
       (and-in (leb 1 (size t)) (leb (size t) 1024) (le→leb _ _ (o .limits .0)) (le→leb _ _ (o .limits .1)))
 
-module _ (f : List ℕ) (q : Request) where
+module _ (f : Source) (q : Request) where
   abbrev inside : Bool
   inside = within f (q .role) (q .set)
 
@@ -52,7 +54,7 @@ module _ (f : List ℕ) (q : Request) where
 
 -- ---- the conditions give the refusals
 
-module _ (f : List ℕ) (q : Request) (t : StepLists) where
+module _ (f : Source) (q : Request) (t : StepLists) where
   abbrev lengthsRow : RefusalRow
   lengthsRow = 9 when (not (oneLength t))
 
@@ -140,21 +142,21 @@ module _ (f : List ℕ) (q : Request) (t : StepLists) where
 
 -- ---- the conditions by number
 
-module _ (f : List ℕ) (q : Request) (t : StepLists) where
+module _ (f : Source) (q : Request) (t : StepLists) where
   nine-out : {n p : ℕ} → RefusedRequest f q t n p → n ≡ 9 → Accepted f × ¬ OneLength t
-  nine-out (file r) e = absurd (not-of-file f r 9 tt e)
+  nine-out (file r) e = absurd (not-of-source f r 9 tt e)
   nine-out (lengths c h) e = (c, h)
   nine-out (numbers c o h) e = absurd (omega arith)
   nine-out (minute c o n m) e = absurd (omega arith)
 
   eleven-out : {n p : ℕ} → RefusedRequest f q t n p → n ≡ 11 → Accepted f × OneLength t × ¬ Numbers f q
-  eleven-out (file r) e = absurd (not-of-file f r 11 tt e)
+  eleven-out (file r) e = absurd (not-of-source f r 11 tt e)
   eleven-out (lengths c h) e = absurd (omega arith)
   eleven-out (numbers c o h) e = (c, o, h)
   eleven-out (minute c o n m) e = absurd (omega arith)
 
   twelve-out : {n p : ℕ} → RefusedRequest f q t n p → n ≡ 12 → Accepted f × OneLength t × Numbers f q × (q .minute ≡ 4294967295)
-  twelve-out (file r) e = absurd (not-of-file f r 12 tt e)
+  twelve-out (file r) e = absurd (not-of-source f r 12 tt e)
   twelve-out (lengths c h) e = absurd (omega arith)
   twelve-out (numbers c o h) e = absurd (omega arith)
   twelve-out (minute c o n m) e = (c, o, n, m)

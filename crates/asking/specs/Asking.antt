@@ -1,4 +1,4 @@
--- What querying and checking take (document 01): a role, a set and a minute, with four lists of proof steps; refusals 1 to 9, 11, 12 and 17.
+-- What querying and checking take (document 01): a role, a set and a minute, with four lists of proof steps; refusals 1 to 9, 11, 12, 17, 20 and 21.
 use mathlib.Core.Path.{_≡_}
 use mathlib.Core.Bool.{Bool, true, _&&_, not}
 use mathlib.Core.List.{List, [], _∷_, _++_, map}
@@ -8,9 +8,9 @@ use lib.ListN.{length, getD}
 use Rattle.meaning.specs.Lists.{below}
 use Rattle.meaning.specs.Proofs.{Step}
 use Rattle.file.specs.Refusals.{RefusalRow, _when_}
-use Rattle.file.specs.Format.{E, R}
-use Rattle.file.specs.Reading.{between, reading}
-use Rattle.file.specs.Conditions.{Accepted}
+use Rattle.file.specs.Reading.{between}
+use Rattle.withdrawals.specs.Source.{Source, E, R, reading}
+use Rattle.withdrawals.specs.Conditions.{Accepted}
 
 pub record Request : Type 0 where
   pub role : ℕ
@@ -46,23 +46,23 @@ abbrev pub oneLength : StepLists → Bool
 oneLength t = eqb (length (t .first)) (size t) && eqb (length (t .second)) (size t) && eqb (length (t .sets)) (size t) && between 1 1024 (size t)
 
 -- A role and a set are within a file's numbers when the issuer and every entity of the set are below E and the name is below R.
-abbrev pub within : List ℕ → ℕ → ℕ → Bool
+abbrev pub within : Source → ℕ → ℕ → Bool
 within f Ar X = ltb (Ar / 32) (E f) && ltb (Ar % 32) (R f) && ltb X (2 ^ E f)
 
 -- 9, 11 and 12
-abbrev pub requestRows : List ℕ → Request → StepLists → List RefusalRow
+abbrev pub requestRows : Source → Request → StepLists → List RefusalRow
 requestRows f q t =
     9 when (not (oneLength t))
     ∷ 11 when (not (within f (q .role) (q .set) && not (eqb (q .set) 0)))
     ∷ 12 when (eqb (q .minute) 4294967295)
     ∷ []
 
--- 1 to 9, 11, 12 and 17
-unfoldable pub asking : List ℕ → Request → StepLists → List RefusalRow
+-- 1 to 9, 11, 12, 17, 20 and 21
+unfoldable pub asking : Source → Request → StepLists → List RefusalRow
 asking f q t = reading f ++ requestRows f q t
 
 -- none of these refusals is given
-pub record Askable (f : List ℕ) (q : Request) (t : StepLists) : Type 0 where
+pub record Askable (f : Source) (q : Request) (t : StepLists) : Type 0 where
   pub accepted : Accepted f
   pub lists : oneLength t ≡ true
   pub within : within f (q .role) (q .set) ≡ true

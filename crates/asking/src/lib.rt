@@ -1,23 +1,25 @@
-// A request of querying and checking: role, set and minute, with four lists of proof steps; refusals 1 to 9, 11, 12 and 17.
+// A request of querying and checking: role, set and minute, with four lists of proof steps; refusals 1 to 9, 11, 12, 17, 20 and 21.
 ghost use mathlib.Core.Path.{_≡_};
 ghost use mathlib.Core.Bool.{_&&_};
 ghost use Prim.Native.Nat.{_/_, _%_, _^_, _≤_};
 ghost use lib.Dec.{eqb, ltb};
 ghost use Rattle.file.specs.Reading.{between};
+ghost use Rattle.withdrawals.specs.Source.{_without_};
 ghost use Rattle.asking.specs.Asking.{request, stepLists};
 ghost use Rattle.asking.specs.Admitting.{Admits};
 
-// Number and place of the first refusal of 1 to 9, 11, 12 and 17; where there is none, 0 and 0, and how many credentials the policy then has.
+// Number and place of the first refusal of 1 to 9, 11, 12, 17, 20 and 21; where there is none, 0 and 0, and how many credentials the policy then has.
 pub struct Admission {
     pub number: u32,
     pub place: u32,
     pub credentials: usize,
 }
 
-// Refusals 1 to 9, 11, 12 and 17; where there is none, the policy then has the file's credentials.
+// Refusals 1 to 9, 11, 12, 17, 20 and 21; where there is none, the policy then has the credentials, their periods cut.
 pub fn judge(
     policy: &mut [u64; 512],
     file: &[u8],
+    withdrawals: &[u8],
     role: u32,
     set: u32,
     minute: u32,
@@ -26,10 +28,10 @@ pub fn judge(
     second: &[u32],
     sets: &[u32],
 ) -> Admission
-    ensures { λ r. ⌜ Admits (now (file .entry)) (request role set minute) (stepLists (now (credential .entry)) (now (first .entry)) (now (second .entry)) (now (sets .entry))) (now (policy .exit)) r ⌝ }
+    ensures { λ r. ⌜ Admits (now (file .entry) without now (withdrawals .entry)) (request role set minute) (stepLists (now (credential .entry)) (now (first .entry)) (now (second .entry)) (now (sets .entry))) (now (policy .exit)) r ⌝ }
 {
     let mut ends = survey::no_ends();
-    let s = survey::survey(policy, &mut ends, file);
+    let s = survey::survey(policy, &mut ends, file, withdrawals);
     if s.number != 0 {
         return refused(s.number, s.place);
     }

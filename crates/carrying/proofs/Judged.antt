@@ -20,14 +20,14 @@ use Rattle.file.proofs.First.{not-not}
 use Rattle.file.proofs.Sizes.{fit, number-read}
 use Rattle.file.proofs.Refusals.{Verdict, verdict, accepted-read, refused-read, refused-some}
 use Rattle.survey.specs.declared.Summary.{Summary}
-use Rattle.survey.specs.Surveying.{Surveyed}
+use Rattle.survey.specs.Surveying.{SurveyedFile}
 use Rattle.codec.specs.ByteLists.{Bytes}
 use Rattle.old_file.specs.OldFormat.{oldLength}
 use Rattle.old_file.specs.OldReading.{oldHeadRows}
 use Rattle.carrying.specs.declared.Judgement.{Judgement}
 use Rattle.carrying.specs.Judging.{OldHeaded, Judges}
 
-module _ (f p es : List ℕ) (s : Summary) (d : Surveyed f p es s) where
+module _ (f : List ℕ) (s : Summary) (d : SurveyedFile f s) where
   abbrev all : List ℕ
   all = ends (credentials f)
 
@@ -40,7 +40,7 @@ module _ (f p es : List ℕ) (s : Summary) (d : Surveyed f p es s) where
       go : Verdict f → Judges f judged
       go (inl c) =
           let z : s .number ≡ 0 = d .number ∙ ap (λ (o : Outcome (List ℕ)). numberOf o) (accepted-read all f c) in
-          record { refused = λ h. absurd (h z); accepted = λ e. c; count = λ e. d .policy e .count }
+          record { refused = λ h. absurd (h z); accepted = λ e. c; count = d .credentials }
       go (inr (n, q, r)) =
           let x : s .number ≡ n = d .number ∙ ap (λ (o : Outcome (List ℕ)). numberOf o) (refused-read all f r) in
           let y : s .place ≡ q = d .place ∙ ap (λ (o : Outcome (List ℕ)). placeOf o) (refused-read all f r) in
@@ -48,7 +48,7 @@ module _ (f p es : List ℕ) (s : Summary) (d : Surveyed f p es s) where
           record {
             refused = λ h. subst⁻¹ (λ (m : ℕ). Refused f m (s .place)) x (subst⁻¹ (λ (m : ℕ). Refused f n m) y r);
             accepted = λ e. absurd (omega arith);
-            count = λ e. d .policy e .count;
+            count = d .credentials;
           }
 
 -- ---- the old head

@@ -91,7 +91,7 @@ fn judge(file: &[u8]) -> Judgement
 {
     let mut policy = policy::room();
     let mut ends = survey::no_ends();
-    let s = survey::survey(&mut policy, &mut ends, file);
+    let s = survey::survey_file(&mut policy, &mut ends, file);
     Judgement {
         number: s.number,
         place: s.place,

@@ -11,7 +11,7 @@ use lib.Seq.{length-take-le, getD-take}
 use Rattle.meaning.specs.Lists.{if}
 use Rattle.file.specs.Refusals.{Outcome}
 use Rattle.asking.specs.Asking.{Request, StepLists, stepLists}
-use Rattle.file.specs.Format.{credentials}
+use Rattle.withdrawals.specs.Source.{Source, credentials}
 use Rattle.checking.specs.Checking.{partBefore, proofRows, lastShown, checking}
 use Rattle.checking.proofs.Parts.{Agree, AgreeBelow}
 use Rattle.checking.proofs.Claims.{part-before-count}
@@ -23,7 +23,7 @@ use Rattle.replies.proofs.Fitting.{fit, steps-whole, steps-unfit}
 use Rattle.check_bytes.specs.Interface.{checkReply}
 
 -- lists that are not of one length
-pub check-unfit : (f : List ℕ) (q : Request) (b : StepLists) (n : ℕ) → fit b ≡ false → checkReply f q b n ≡ notWhole f 0
+pub check-unfit : (f : Source) (q : Request) (b : StepLists) (n : ℕ) → fit b ≡ false → checkReply f q b n ≡ notWhole f 0
 unfolding checkReply checking
 check-unfit f q b n e = steps-unfit b f q e (proofRows (credentials f) q (stepListsIn b) n) (lastShown (credentials f) (partBefore n (stepListsIn b)) n .level) 0
 
@@ -50,7 +50,7 @@ module _ (L steps n : ℕ) (few : L ≤ 1024) (least : n ≡ min steps L) where
           (λ high. List·getD-eq-default (take L room) 0 (omega (arith, size)) ∙ sym (List·getD-eq-default (entries 4 bs) 0 (omega (arith, all))))
 
 -- the entries before the step count decide
-module _ (f : List ℕ) (q : Request) (b : StepLists) (L steps n : ℕ) (z : StepSizes b L) (least : n ≡ min steps L) where
+module _ (f : Source) (q : Request) (b : StepLists) (L steps n : ℕ) (z : StepSizes b L) (least : n ≡ min steps L) where
   bytes-checked : checkReply f q b steps ≡ checking f q (stepListsIn b) steps
   unfolding checkReply
   bytes-checked = ap (λ (w : Bool). if w (checking f q (stepListsIn b) steps) (notWhole f 0)) (steps-whole b L z)

@@ -7,12 +7,14 @@ ghost use Rattle.checking.specs.Checking.{saysChecked};
 ghost use Rattle.codec.specs.Bytes.{firstEntries};
 ghost use Rattle.replies.specs.Interface.{word};
 ghost use Rattle.replies.specs.Lengths.{StepSizes};
+ghost use Rattle.withdrawals.specs.Source.{_without_};
 ghost use Rattle.check_bytes.specs.Interface.{checkReply};
 use checking::Checked;
 
 // Of n entries each; those past the step count are not read.
 pub fn check(
     file: &[u8],
+    withdrawals: &[u8],
     role: u32,
     set: u32,
     minute: u32,
@@ -24,7 +26,7 @@ pub fn check(
     n: usize,
 ) -> u64
     requires { ⌜ StepSizes (stepLists (now credential) (now first) (now second) (now sets)) n ⌝ }
-    ensures { λ r. ⌜ r ≡ word (λ n. n) (checkReply (now (file .entry)) (request role set minute) (stepLists (now (credential .entry)) (now (first .entry)) (now (second .entry)) (now (sets .entry))) steps) ⌝ }
+    ensures { λ r. ⌜ r ≡ word (λ n. n) (checkReply (now (file .entry) without now (withdrawals .entry)) (request role set minute) (stepLists (now (credential .entry)) (now (first .entry)) (now (second .entry)) (now (sets .entry))) steps) ⌝ }
 {
     let count = fewer(steps, n);
     let mut credential_room = replies::room32();
@@ -37,6 +39,7 @@ pub fn check(
     read(&mut set_room, sets, count);
     number_of(checking::check(
         file,
+        withdrawals,
         role,
         set,
         minute,

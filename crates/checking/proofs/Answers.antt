@@ -15,8 +15,8 @@ use Rattle.meaning.proofs.Tests.{and-left, and-right}
 use Rattle.file.specs.declared.Refusal.{Refusal}
 use Rattle.file.specs.Refusals.{RefusalRow, Outcome, done, refused, first, _at_when_}
 use Rattle.file.specs.Values.{firstRefusal}
-use Rattle.file.specs.Format.{credentials}
 use Rattle.file.specs.Reading.{between}
+use Rattle.withdrawals.specs.Source.{Source, credentials}
 use Rattle.asking.specs.Asking.{Request, StepLists, stepIn, stepsIn, size, oneLength, asking, Askable}
 use Rattle.asking.proofs.Asked.{askable-passes, asked-refused, asked-passed, askable}
 use Rattle.checking.specs.declared.Kept.{Kept}
@@ -96,7 +96,7 @@ module _ (cs : List Credential) (q : Request) (t : StepLists) (n : ℕ) where
 
 -- ---- from the refusals of the request
 
-module _ (f : List ℕ) (q : Request) (t : StepLists) (n : ℕ) where
+module _ (f : Source) (q : Request) (t : StepLists) (n : ℕ) where
   -- the level, where nothing is refused
   abbrev pub level : ℕ
   level = lastShown (credentials f) (partBefore n t) n .level

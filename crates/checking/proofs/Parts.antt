@@ -11,8 +11,8 @@ use lib.Seq.{getD-take}
 use Rattle.meaning.specs.Credentials.{Credential}
 use Rattle.meaning.specs.Proofs.{Step, Shown, nothing, shownBy}
 use Rattle.file.specs.Refusals.{RefusalRow, first, _when_, _at_when_}
-use Rattle.file.specs.Format.{credentials}
-use Rattle.file.specs.Reading.{between, reading}
+use Rattle.file.specs.Reading.{between}
+use Rattle.withdrawals.specs.Source.{Source, credentials, reading}
 use Rattle.asking.specs.Asking.{Request, StepLists, stepIn, stepsIn, size, oneLength, within, asking}
 use Rattle.checking.specs.Checking.{stepHolds, stepRow, stepRows, lastShown, partBefore, checking}
 use Rattle.checking.specs.Walks.{concluding}
@@ -75,7 +75,7 @@ module _ {n : ℕ} {t u : StepLists} (a : AgreeBelow n t u) where
   same-lengths : oneLength t ≡ oneLength u
   same-lengths = λ j. eqb (a .first .long j) (same-size j) && eqb (a .second .long j) (same-size j) && eqb (a .sets .long j) (same-size j) && between 1 1024 (same-size j)
 
-  module _ (f : List ℕ) (q : Request) where
+  module _ (f : Source) (q : Request) where
     same-asking : asking f q t ≡ asking f q u
     unfolding asking
     same-asking =

@@ -19,8 +19,8 @@ use Rattle.meaning.proofs.Tests.{and-in, and-left, and-right, or-left, is-true,
 use Rattle.file.specs.Refusals.{RefusalRow, done, refused, first}
 use Rattle.file.specs.declared.Refusal.{Refusal}
 use Rattle.file.specs.Values.{firstRefusal}
-use Rattle.file.specs.Format.{credentials}
 use Rattle.file.specs.Reading.{between}
+use Rattle.withdrawals.specs.Source.{Source, credentials}
 use Rattle.asking.specs.Asking.{Request, StepLists, stepIn, stepsIn, size, asking, Askable}
 use Rattle.asking.specs.Conditions.{ofRequest}
 use Rattle.asking.proofs.Asked.{all-append, first-number, asked-refused, asked-passed, asked-number}
@@ -130,7 +130,7 @@ module _ (cs : List Credential) (q : Request) (t : StepLists) where
 
 -- ---- the answer to a request that can be asked, with a count of 1 to L
 
-module _ (f : List ℕ) (q : Request) (t : StepLists) (n : ℕ) (a : Askable f q t) (some : 1 ≤ n) (few : n ≤ size t) where
+module _ (f : Source) (q : Request) (t : StepLists) (n : ℕ) (a : Askable f q t) (some : 1 ≤ n) (few : n ≤ size t) where
   abbrev cs : List Credential
   cs = credentials f
 
@@ -215,7 +215,7 @@ module _ (f : List ℕ) (q : Request) (t : StepLists) (n : ℕ) (a : Askable f q
       out (other o s c) = let z : _≡_ {A = ℕ} 14 16 = cc in omega arith
       out (passed o s c) = let z : _≡_ {A = ℕ} 0 1 = cc in omega arith
 
-module _ (f : List ℕ) (q : Request) (t : StepLists) (n : ℕ) where
+module _ (f : Source) (q : Request) (t : StepLists) (n : ℕ) where
   pub count-outside : Askable f q t → checking f q t n ≡ refused 14 0 ↔ ¬ ((1 ≤ n) × (n ≤ size t))
   count-outside a = (λ e w. not-fourteen f q t n a (w .0) (w .1) e, λ h. after-request f q t n a ∙ rw (outside h) refl)
     where

@@ -1,4 +1,4 @@
--- Checking a proof (document 01): the level, or a refusal of 1 to 9, 11, 12 and 14 to 17.
+-- Checking a proof (document 01): the level, or a refusal of 1 to 9, 11, 12, 14 to 17, 20 and 21.
 use mathlib.Core.Bool.{Bool, _&&_, not}
 use mathlib.Core.List.{List, [], _∷_, _++_, map}
 use Prim.Native.Nat.{ℕ, _-_}
@@ -8,8 +8,8 @@ use Rattle.meaning.specs.Lists.{below}
 use Rattle.meaning.specs.Credentials.{Credential, credentialAt}
 use Rattle.meaning.specs.Proofs.{Step, Shown, nothing, keeps, shownBy}
 use Rattle.file.specs.Refusals.{RefusalRow, Outcome, done, refused, first, _when_, _at_when_}
-use Rattle.file.specs.Format.{credentials}
 use Rattle.file.specs.Reading.{between}
+use Rattle.withdrawals.specs.Source.{Source, credentials}
 use Rattle.asking.specs.Asking.{Request, StepLists, stepLists, stepIn, stepsIn, size, asking}
 use Rattle.checking.specs.declared.Checked.{Checked}
 use Rattle.checking.specs.declared.Checked.the-variants as C
@@ -43,7 +43,7 @@ abbrev pub proofRows : List Credential → Request → StepLists → ℕ → Lis
 proofRows cs q t n = 14 when (not (between 1 (size t) n)) ∷ stepRows cs q (partBefore n t) n
 
 -- the level of the proof, which is its last step's
-unfoldable pub checking : List ℕ → Request → StepLists → ℕ → Outcome ℕ
+unfoldable pub checking : Source → Request → StepLists → ℕ → Outcome ℕ
 checking f q t n = first (asking f q t ++ proofRows (credentials f) q t n) (lastShown (credentials f) (partBefore n t) n .level)
 
 -- document 01's number and values for each case of the answer

@@ -5,6 +5,7 @@ ghost use lib.ListN.{length};
 ghost use Rattle.policy.specs.Policy.{credentialsOf};
 ghost use Rattle.asking.specs.Asking.{request, stepLists, stepIn};
 ghost use Rattle.steps.specs.Steps.{stepOf};
+ghost use Rattle.withdrawals.specs.Source.{_without_};
 ghost use Rattle.checking.specs.Checking.{checking, saysChecked};
 ghost use Rattle.checking.specs.Walks.{Walkable, Walked, concludedBy};
 use steps::Step;
@@ -26,6 +27,7 @@ struct Kept {
 // Checks the first `steps` steps as a proof of the membership at the minute.
 pub fn check(
     file: &[u8],
+    withdrawals: &[u8],
     role: u32,
     set: u32,
     minute: u32,
@@ -35,12 +37,13 @@ pub fn check(
     sets: &[u32],
     steps: usize,
 ) -> Checked
-    ensures { λ r. ⌜ saysChecked r ≡ checking (now (file .entry)) (request role set minute) (stepLists (now (credential .entry)) (now (first .entry)) (now (second .entry)) (now (sets .entry))) steps ⌝ }
+    ensures { λ r. ⌜ saysChecked r ≡ checking (now (file .entry) without now (withdrawals .entry)) (request role set minute) (stepLists (now (credential .entry)) (now (first .entry)) (now (second .entry)) (now (sets .entry))) steps ⌝ }
 {
     let mut policy = policy::room();
     let j = asking::judge(
         &mut policy,
         file,
+        withdrawals,
         role,
         set,
         minute,

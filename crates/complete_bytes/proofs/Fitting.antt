@@ -1,7 +1,7 @@
 -- What the test of the lengths says: the sizes of the lists where it holds, and 9 where it does not.
 use mathlib.Core.Path.{_≡_, refl, sym, _∙_, subst⁻¹}
 use mathlib.Core.Bool.{Bool, true, false, _&&_, not}
-use mathlib.Core.List.{List, [], _∷_, _++_}
+use mathlib.Core.List.{[], _∷_, _++_}
 use Prim.Native.Nat.{ℕ, _/_, _%_}
 use native.Mathlib.Omega.{arith}
 use borrow.Author.Tests.{eq-eqb}
@@ -11,8 +11,8 @@ use Rattle.meaning.specs.Lists.{if}
 use Rattle.meaning.specs.Table.{table}
 use Rattle.meaning.proofs.Tests.{and-left, and-right}
 use Rattle.file.specs.Refusals.{first, _when_}
-use Rattle.file.specs.Format.{credentials}
-use Rattle.file.specs.Reading.{between, reading}
+use Rattle.file.specs.Reading.{between}
+use Rattle.withdrawals.specs.Source.{Source, credentials, reading}
 use Rattle.completing.specs.Completing.{Lent, threeOfOneLength, tableFullRow, replyTo}
 use Rattle.codec.proofs.Entries.{length-entries}
 use Rattle.replies.specs.Interface.{notWhole}
@@ -55,7 +55,7 @@ module _ (b : Lent) where
       let few = leb→le n 1024 (and-right (leb 1 n) (leb n 1024) (and-right (x && y) z l)) in
       record { roles = omega arith; sets = omega arith; spans = omega arith; few = few }
 
-  pub table-unfit : (f : List ℕ) → fit ≡ false → completeReply f b ≡ notWhole f 0
+  pub table-unfit : (f : Source) → fit ≡ false → completeReply f b ≡ notWhole f 0
   unfolding completeReply replyTo
   table-unfit f h = go (wholeLent b) (threeOfOneLength (lentIn b)) (sym fit-is ∙ h)
     where

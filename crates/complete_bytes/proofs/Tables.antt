@@ -9,8 +9,8 @@ use lib.ListN.{length, take, drop}
 use Rattle.meaning.specs.Lists.{if}
 use Rattle.meaning.specs.Table.{Row, table}
 use Rattle.file.specs.Refusals.{Outcome, first, _when_, left}
-use Rattle.file.specs.Format.{credentials}
-use Rattle.file.specs.Reading.{between, reading}
+use Rattle.file.specs.Reading.{between}
+use Rattle.withdrawals.specs.Source.{Source, credentials, reading}
 use Rattle.writing.specs.Columns.{column}
 use Rattle.completing.specs.Completing.{Lent, lent, replyTo, TableEnding, tableEnding, completing}
 use Rattle.codec.specs.Bytes.{bytesOf, entries}
@@ -23,7 +23,7 @@ use Rattle.complete_bytes.specs.Interface.{lentIn, completeReply, comple
 use Rattle.complete_bytes.specs.Lengths.{TableSizes}
 use Rattle.complete_bytes.proofs.Fitting.{fit, table-whole, table-unfit}
 
-module _ (f : List ℕ) where
+module _ (f : Source) where
   -- a column of the table, in so many places
   abbrev columnOf : (Row → ℕ) → ℕ → List ℕ
   columnOf field size = column field size (table (credentials f))

@@ -1,11 +1,10 @@
 -- Completing on bytes (document 01): lists of bytes in place of the lent lists.
 use mathlib.Core.Bool.{Bool, _&&_}
-use mathlib.Core.List.{List}
 use Prim.Native.Nat.{ℕ}
 use Rattle.meaning.specs.Lists.{if}
 use Rattle.meaning.specs.Table.{table}
 use Rattle.file.specs.Refusals.{Outcome, left}
-use Rattle.file.specs.Format.{credentials}
+use Rattle.withdrawals.specs.Source.{Source, credentials}
 use Rattle.writing.specs.Columns.{column}
 use Rattle.completing.specs.Completing.{Lent, lent, replyTo, TableEnding, tableEnding}
 use Rattle.codec.specs.Bytes.{bytesOf, entries, whole}
@@ -17,11 +16,11 @@ wholeLent b = whole 4 (b .roles) && whole 4 (b .sets) && whole 8 (b .spans)
 abbrev pub lentIn : Lent → Lent
 lentIn b = lent (entries 4 (b .roles)) (entries 4 (b .sets)) (entries 8 (b .spans))
 
-unfoldable pub completeReply : List ℕ → Lent → Outcome ℕ
+unfoldable pub completeReply : Source → Lent → Outcome ℕ
 completeReply f b = if (wholeLent b) (replyTo f (lentIn b)) (notWhole f 0)
 
 -- the reply and the bytes as the call leaves them
-unfoldable pub completeBytes : List ℕ → Lent → TableEnding
+unfoldable pub completeBytes : Source → Lent → TableEnding
 completeBytes f b =
     tableEnding (completeReply f b)
     (left (completeReply f b) (b .roles) (bytesOf 4 (column (λ x. x .role) (entryCount (b .roles)) (table (credentials f)))))

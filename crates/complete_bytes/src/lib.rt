@@ -5,6 +5,7 @@ ghost use Rattle.meaning.specs.Lists.{if};
 ghost use Rattle.completing.specs.Completing.{lent, saysCompleted};
 ghost use Rattle.replies.specs.Interface.{word};
 ghost use Rattle.replies.specs.Replies.{writes};
+ghost use Rattle.withdrawals.specs.Source.{_without_};
 ghost use Rattle.complete_bytes.specs.Interface.{completeBytes};
 ghost use Rattle.complete_bytes.specs.Lengths.{tableFits, TableSizes};
 use completing::Completed;
@@ -19,16 +20,24 @@ pub fn table_fits(roles: usize, sets: usize, spans: usize) -> bool
 }
 
 // With lists of its own: bytes of n entries each.
-pub fn complete(roles: &mut [u8], sets: &mut [u8], spans: &mut [u8], file: &[u8], n: usize) -> u64
+pub fn complete(
+    roles: &mut [u8],
+    sets: &mut [u8],
+    spans: &mut [u8],
+    file: &[u8],
+    withdrawals: &[u8],
+    n: usize,
+) -> u64
     requires { ⌜ TableSizes (lent (now roles) (now sets) (now spans)) n ⌝ }
-    ensures { λ r. ⌜ r ≡ word (λ n. n) (completeBytes (now (file .entry)) (lent (now (roles .entry)) (now (sets .entry)) (now (spans .entry))) .reply) ⌝ }
-    ensures { λ _. ⌜ lent (now (roles .exit)) (now (sets .exit)) (now (spans .exit)) ≡ completeBytes (now (file .entry)) (lent (now (roles .entry)) (now (sets .entry)) (now (spans .entry))) .lists ⌝ }
+    ensures { λ r. ⌜ r ≡ word (λ n. n) (completeBytes (now (file .entry) without now (withdrawals .entry)) (lent (now (roles .entry)) (now (sets .entry)) (now (spans .entry))) .reply) ⌝ }
+    ensures { λ _. ⌜ lent (now (roles .exit)) (now (sets .exit)) (now (spans .exit)) ≡ completeBytes (now (file .entry) without now (withdrawals .entry)) (lent (now (roles .entry)) (now (sets .entry)) (now (spans .entry))) .lists ⌝ }
 {
     let mut role_room = replies::room32();
     let mut set_room = replies::room32();
     let mut span_room = room64();
     let answer = completing::complete(
         file,
+        withdrawals,
         &mut role_room[..n],
         &mut set_room[..n],
         &mut span_room[..n],

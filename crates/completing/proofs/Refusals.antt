@@ -2,7 +2,7 @@
 use mathlib.Core.Path.{_≡_, refl, sym, ap, _∙_, subst}
 use mathlib.Core.Logic.{_⊎_, inl, inr, _↔_}
 use mathlib.Core.Bool.{_&&_}
-use mathlib.Core.List.{List, [], _∷_}
+use mathlib.Core.List.{[], _∷_}
 use Prim.Native.Nat.{ℕ, _<_, _≤_}
 use native.Mathlib.Omega.{arith}
 use lib.Dec.{T, eqb, leb, eqb→eq, leb→le, le→leb, ltb→lt, lt→ltb, T-not, not-T}
@@ -10,11 +10,12 @@ use lib.ListN.{length}
 use Rattle.meaning.specs.Table.{table}
 use Rattle.meaning.proofs.Tests.{and-in, and-left, and-right, eq-in}
 use Rattle.file.specs.Refusals.{Outcome, done, refused, first}
-use Rattle.file.specs.Format.{credentials}
-use Rattle.file.specs.Reading.{between, reading}
-use Rattle.file.specs.Conditions.{Accepted}
+use Rattle.file.specs.Reading.{between}
 use Rattle.file.proofs.First.{after, first-append}
-use Rattle.file.proofs.Refusals.{pass, give, accepted-read, refused-read, not-of-file, Verdict, verdict, by-test, less}
+use Rattle.file.proofs.Refusals.{pass, give, by-test, less}
+use Rattle.withdrawals.specs.Source.{Source, credentials, reading}
+use Rattle.withdrawals.specs.Conditions.{Accepted}
+use Rattle.withdrawals.proofs.Refusals.{accepted-read, refused-read, not-of-source, Verdict, verdict}
 use Rattle.completing.specs.Completing.{Lent, threeOfOneLength, lentRow, tableFullRow, replyTo}
 use Rattle.completing.specs.Conditions.{ThreeOfOneLength, RefusedTable, file, lengths, full}
 
@@ -33,7 +34,7 @@ module _ (t : Lent) where
       (and-in (eqb (length (t .sets)) L) (eqb (length (t .spans)) L) (eq-in _ _ (o .sets)) (eq-in _ _ (o .spans)))
       (and-in (leb 1 L) (leb L 1024) (le→leb _ _ (o .limits .0)) (le→leb _ _ (o .limits .1)))
 
-module _ (f : List ℕ) (t : Lent) where
+module _ (f : Source) (t : Lent) where
   abbrev count : ℕ
   count = length (table (credentials f))
 
@@ -112,12 +113,12 @@ module _ (f : List ℕ) (t : Lent) where
   -- ---- by number
 
   nine-out : {n p : ℕ} → RefusedTable f t n p → n ≡ 9 → Accepted f × ¬ ThreeOfOneLength t
-  nine-out (file r) e = absurd (not-of-file f r 9 tt e)
+  nine-out (file r) e = absurd (not-of-source f r 9 tt e)
   nine-out (lengths c h) e = (c, h)
   nine-out (full c o h) e = absurd (omega arith)
 
   ten-out : {n p : ℕ} → RefusedTable f t n p → n ≡ 10 → Accepted f × ThreeOfOneLength t × (L t < count)
-  ten-out (file r) e = absurd (not-of-file f r 10 tt e)
+  ten-out (file r) e = absurd (not-of-source f r 10 tt e)
   ten-out (lengths c h) e = absurd (omega arith)
   ten-out (full c o h) e = (c, o, h)
 

@@ -12,10 +12,10 @@ use Rattle.meaning.specs.Credentials.{Credential}
 use Rattle.meaning.specs.Table.{Row, ends, spanCount, table}
 use Rattle.meaning.proofs.Tests.{and-left, and-right}
 use Rattle.file.specs.Refusals.{Outcome, done, refused, first, numberOf, left}
-use Rattle.file.specs.Format.{credentials}
-use Rattle.file.specs.Reading.{between, read}
-use Rattle.file.proofs.Refusals.{Verdict, verdict, accepted-read, refused-read, not-of-file}
+use Rattle.file.specs.Reading.{between}
 use Rattle.policy.specs.Policy.{credentialsOf}
+use Rattle.withdrawals.specs.Source.{Source, credentials, read}
+use Rattle.withdrawals.proofs.Refusals.{Verdict, verdict, accepted-read, refused-read, not-of-source}
 use Rattle.survey.specs.Ends.{padded}
 use Rattle.survey.specs.Surveying.{Surveyed}
 use Rattle.survey.specs.declared.Summary.{Summary}
@@ -30,17 +30,17 @@ abbrev Keeps : ℕ → Type 0
 Keeps n = (n ≡ 10 → ⊥) × (n ≡ 13 → ⊥)
 
 -- none of the refusals of a file does
-read-keeps : {A : Type 0} (f : List ℕ) (a : A) → Keeps (numberOf (read f a))
+read-keeps : {A : Type 0} (f : Source) (a : A) → Keeps (numberOf (read f a))
 read-keeps {A} f a = go (verdict f)
   where
     go : Verdict f → Keeps (numberOf (read f a))
     go (inl c) = subst⁻¹ (λ (o : Outcome A). Keeps (numberOf o)) (accepted-read a f c) ((λ e. omega arith), λ e. omega arith)
-    go (inr (n, p, r)) = subst⁻¹ (λ (o : Outcome A). Keeps (numberOf o)) (refused-read a f r) (not-of-file f r 10 tt, not-of-file f r 13 tt)
+    go (inr (n, p, r)) = subst⁻¹ (λ (o : Outcome A). Keeps (numberOf o)) (refused-read a f r) (not-of-source f r 10 tt, not-of-source f r 13 tt)
 
 left-kept : (n p : ℕ) (before written : List ℕ) → Keeps n → left {A = ℕ} (refused n p) before written ≡ before
 left-kept n p before written h = simp (ne-eqb n 10 (h .0), ne-eqb n 13 (h .1))
 
-module _ (f : List ℕ) (t : Lent) where
+module _ (f : Source) (t : Lent) where
   abbrev size : ℕ
   size = length (t .roles)
 

@@ -7,8 +7,8 @@ use lib.ListN.{length}
 use Rattle.meaning.specs.Table.{table}
 use Rattle.file.specs.Refusals as R
 use Rattle.file.specs.Refusals.{Outcome, done, refused, first, _when_, left}
-use Rattle.file.specs.Format.{credentials}
-use Rattle.file.specs.Reading.{between, reading}
+use Rattle.file.specs.Reading.{between}
+use Rattle.withdrawals.specs.Source.{Source, credentials, reading}
 use Rattle.writing.specs.Columns.{column}
 use Rattle.completing.specs.declared.Completed.{Completed}
 use Rattle.completing.specs.declared.Completed.the-variants as C
@@ -31,11 +31,11 @@ abbrev pub lentRow : Lent → R.RefusalRow
 lentRow t = 9 when (not (threeOfOneLength t))
 
 -- 10: more than L memberships over all minutes
-abbrev pub tableFullRow : List ℕ → Lent → R.RefusalRow
+abbrev pub tableFullRow : Source → Lent → R.RefusalRow
 tableFullRow f t = 10 when (ltb (length (t .roles)) (length (table (credentials f))))
 
 -- the count of memberships valid at one minute or more
-unfoldable pub replyTo : List ℕ → Lent → Outcome ℕ
+unfoldable pub replyTo : Source → Lent → Outcome ℕ
 replyTo f t = first (reading f ++ (lentRow t ∷ tableFullRow f t ∷ [])) (length (table (credentials f)))
 
 -- how a call ends: its reply, and the lists as it leaves them
@@ -47,7 +47,7 @@ abbrev pub tableEnding : Outcome ℕ → List ℕ → List ℕ → List ℕ → 
 tableEnding reply roles sets spans = record { reply = reply; lists = lent roles sets spans }
 
 -- the memberships ascending by role, then by set, each with all its spans; zeros after the last
-unfoldable pub completing : List ℕ → Lent → TableEnding
+unfoldable pub completing : Source → Lent → TableEnding
 completing f t =
     tableEnding (replyTo f t)
     (left (replyTo f t) (t .roles) (column (λ x. x .role) (length (t .roles)) (table (credentials f))))

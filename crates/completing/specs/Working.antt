@@ -9,7 +9,7 @@ use Rattle.file.specs.Refusals.{Outcome, first, _when_, left}
 use Rattle.writing.specs.Columns.{column}
 use Rattle.completing.specs.Completing.{Lent, TableEnding, tableEnding}
 
--- The ending after 1 to 9 and 17, by the table of some credentials: refusal 10, or the count of its rows.
+-- The ending after 1 to 9, 17, 20 and 21, by the table of some credentials: refusal 10, or the count of its rows.
 abbrev pub lastReply : List Credential → Lent → Outcome ℕ
 lastReply cs t = first (10 when (ltb (length (t .roles)) (length (table cs))) ∷ []) (length (table cs))
 

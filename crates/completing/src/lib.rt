@@ -1,8 +1,9 @@
-// Completing the table: every membership of a credentials file with all spans in which the rules give it, in three lent lists.
+// Completing the table: every membership of a credentials file after its withdrawals, with all spans in which the rules give it, in three lent lists.
 ghost use mathlib.Core.Path.{_≡_};
 ghost use lib.ListN.{length};
 ghost use Rattle.policy.specs.Policy.{credentialsOf};
 ghost use Rattle.tabling.specs.Tabling.{Loadable};
+ghost use Rattle.withdrawals.specs.Source.{_without_};
 ghost use Rattle.completing.specs.Completing.{lent, tableEnding, completing, saysCompleted};
 ghost use Rattle.completing.specs.Working.{lastEnding};
 
@@ -13,12 +14,18 @@ pub enum Completed {
 }
 
 // Completes the table (document 01): the reply, and the three lists as the call leaves them.
-pub fn complete(file: &[u8], roles: &mut [u32], sets: &mut [u32], spans: &mut [u64]) -> Completed
-    ensures { λ r. ⌜ tableEnding (saysCompleted r) (now (roles .exit)) (now (sets .exit)) (now (spans .exit)) ≡ completing (now (file .entry)) (lent (now (roles .entry)) (now (sets .entry)) (now (spans .entry))) ⌝ }
+pub fn complete(
+    file: &[u8],
+    withdrawals: &[u8],
+    roles: &mut [u32],
+    sets: &mut [u32],
+    spans: &mut [u64],
+) -> Completed
+    ensures { λ r. ⌜ tableEnding (saysCompleted r) (now (roles .exit)) (now (sets .exit)) (now (spans .exit)) ≡ completing (now (file .entry) without now (withdrawals .entry)) (lent (now (roles .entry)) (now (sets .entry)) (now (spans .entry))) ⌝ }
 {
     let mut policy = policy::room();
     let mut ends = survey::no_ends();
-    let s = survey::survey(&mut policy, &mut ends, file);
+    let s = survey::survey(&mut policy, &mut ends, file, withdrawals);
     if s.number != 0 {
         return Completed::Refused {
             number: s.number,

@@ -15,7 +15,7 @@ pub fn room() -> [u8; 5127]
     [0; 5127]
 }
 
-// What was read of standard input.
+// What was read.
 pub struct Input {
     pub count: usize,
     pub failed: bool,
@@ -25,9 +25,16 @@ pub struct Input {
 pub fn read(file: &mut [u8]) -> Input
     ensures { λ r. ⌜ Counts (r .count) (now (file .exit)) ⌝ }
 {
+    read_from(STDIN_FILENO, file, b"standard input cannot be read")
+}
+
+// The same of an open file. `failure` is what standard error says where a read failed.
+pub fn read_from(fd: i32, file: &mut [u8], failure: &[u8]) -> Input
+    ensures { λ r. ⌜ Counts (r .count) (now (file .exit)) ⌝ }
+{
     let mut n = 0;
     while n < file.len() {
-        let more = read_on(file, n);
+        let more = read_on(fd, file, n, failure);
         let k = more.count;
         if k == 0 {
             return Input {
@@ -123,14 +130,14 @@ fn write(fd: i32, bytes: &[u8], n: usize) -> bool
 }
 
 // Reads once to the places from n on: how many bytes came, none at the end of the input or where the read failed.
-fn read_on(file: &mut [u8], n: usize) -> Input
+fn read_on(fd: i32, file: &mut [u8], n: usize, failure: &[u8]) -> Input
     requires { ⌜ n ≤ length (now file) ⌝ }
     ensures { λ r. ⌜ n + r .count ≤ length (now (file .entry)) ⌝ }
 {
     let rest = &mut file[n..];
-    let got = libc::read(STDIN_FILENO, rest);
+    let got = libc::read(fd, rest);
     if got < 0 {
-        os::fail(b"standard input cannot be read");
+        os::fail(failure);
         return Input {
             count: 0,
             failed: true,

@@ -15,7 +15,7 @@ use Rattle.meaning.specs.Lists.{if}
 use Rattle.meaning.specs.Credentials.{Period}
 use Rattle.meaning.specs.Table.{bit, ends, spanCount, extended, intervalsTo, intervals}
 use Rattle.file.specs.Refusals.{Outcome, done, refused, first, numberOf, placeOf, _when_}
-use Rattle.file.specs.Format.{credentials}
+use Rattle.withdrawals.specs.Source.{Source, credentials}
 use Rattle.survey.specs.declared.Summary.{Summary}
 use Rattle.survey.specs.Ends.{padded, endsRead}
 use Rattle.survey.specs.Surveying.{Surveyed}
@@ -38,7 +38,7 @@ same-intervals es fs e spans (suc n) =
     ap (λ (vs : List Period). if (eqb (bit spans n) 1) (extended vs (getD es n 0) (getD es (suc n) 0)) vs) (same-intervals es fs e spans n)
     ∙ ap₂ (λ (a b : ℕ). if (eqb (bit spans n) 1) (extended (intervalsTo fs spans n) a b) (intervalsTo fs spans n)) (e n) (e (suc n))
 
-module _ (f p es : List ℕ) (s : Summary) (found : Surveyed f p es s) where
+module _ (f : Source) (p es : List ℕ) (s : Summary) (found : Surveyed f p es s) where
   abbrev all : List ℕ
   all = ends (credentials f)
 

@@ -6,13 +6,12 @@ use lib.ListN.{length, replicate}
 use Rattle.meaning.specs.Credentials.{Period}
 use Rattle.meaning.specs.Table.{ends, spanCount, intervals}
 use Rattle.file.specs.Refusals.{Outcome, done, refused, first, _when_}
-use Rattle.file.specs.Format.{credentials}
-use Rattle.file.specs.Reading.{reading}
+use Rattle.withdrawals.specs.Source.{Source, credentials, reading}
 use Rattle.ends.specs.declared.Interval.{Interval}
 use Rattle.ends.specs.declared.Intervals.{Intervals}
 
 -- 11, after 8, for a bit beyond the last span
-abbrev pub intervalsRead : List ℕ → ℕ → Outcome (List Period)
+abbrev pub intervalsRead : Source → ℕ → Outcome (List Period)
 intervalsRead f spans =
     let es : List ℕ = ends (credentials f) in
     first (reading f ++ (11 when (leb (2 ^ spanCount es) spans) ∷ [])) (intervals es spans)
@@ -31,5 +30,5 @@ abbrev pub intervalsOut : Outcome (List Period) → Intervals
 intervalsOut (done vs) = record { number = 0; place = 0; count = length vs; intervals = pairs vs }
 intervalsOut (refused n p) = record { number = n; place = p; count = 0; intervals = replicate 32 noPair }
 
-unfoldable pub intervalsIn : List ℕ → ℕ → Intervals
+unfoldable pub intervalsIn : Source → ℕ → Intervals
 intervalsIn f spans = intervalsOut (intervalsRead f spans)

@@ -8,7 +8,7 @@ use lib.Dec.{eqb}
 use lib.ListN.{length, take, drop}
 use Rattle.meaning.specs.Table.{ends}
 use Rattle.file.specs.Refusals.{RefusalRow, Outcome, done, refused, first, _when_, left}
-use Rattle.file.specs.Format.{credentials}
+use Rattle.withdrawals.specs.Source.{Source, credentials}
 use Rattle.ends.specs.declared.Ends.{Ends}
 use Rattle.survey.specs.Ends.{padded}
 use Rattle.ends.specs.Ends.{endsIn}
@@ -19,7 +19,7 @@ use Rattle.replies.proofs.Leaving.{all-bytes}
 use Rattle.replies.proofs.Files.{refused-left, refused-first, accepted-first, ends-refused, ends-accepted}
 use Rattle.ends_bytes.specs.Interface.{endsReply, endsBytes}
 
-module _ (f b : List ℕ) (e : Ends) (u : e ≡ endsIn f) where
+module _ (f : Source) (b : List ℕ) (e : Ends) (u : e ≡ endsIn f) where
   abbrev all : List ℕ
   all = ends (credentials f)
 

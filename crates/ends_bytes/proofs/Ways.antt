@@ -10,16 +10,16 @@ use lib.Dec.{T, eqb, eqb→eq}
 use lib.ListN.{length}
 use Rattle.meaning.specs.Table.{ends}
 use Rattle.file.specs.Refusals.{RefusalRow, Outcome, done, refused, first, _when_, left}
-use Rattle.file.specs.Format.{credentials}
-use Rattle.file.specs.Conditions.{Accepted}
-use Rattle.file.proofs.Refusals.{Verdict, verdict, refused-some}
+use Rattle.withdrawals.specs.Source.{Source, credentials}
+use Rattle.withdrawals.specs.Conditions.{Accepted}
+use Rattle.withdrawals.proofs.Refusals.{refused-some, Verdict, verdict}
 use Rattle.survey.specs.Ends.{padded}
 use Rattle.codec.specs.Bytes.{bytesOf}
 use Rattle.replies.specs.Interface.{word}
 use Rattle.replies.proofs.Files.{refused-left, refused-first, accepted-first}
 use Rattle.ends_bytes.specs.Interface.{endsReply, endsBytes}
 
-module _ (f b : List ℕ) where
+module _ (f : Source) (b : List ℕ) where
   abbrev pub all : List ℕ
   all = ends (credentials f)
 

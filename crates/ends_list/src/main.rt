@@ -2,7 +2,8 @@
 // means on standard error.
 
 fn print_ends(file: &[u8]) {
-    let e = ends::ends_of(file);
+    let none = withdrawals::none();
+    let e = ends::ends_of(file, &none);
     if e.number != 0 {
         console::print_refusal(e.number, e.place);
         console::explain(file, e.number, e.place);

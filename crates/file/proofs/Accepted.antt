@@ -88,7 +88,7 @@ module _ (f : List ℕ) (h : Head f) (i : ℕ) (g : Good f i) where
 
 module _ (f : List ℕ) (h : Head f) (good : GoodBelow f (N f)) where
   -- the period at a position below N is the one of its bytes
-  period-at : (i : ℕ) → i < N f → credentialIn f i .period ≡ periodOf f i
+  pub period-at : (i : ℕ) → i < N f → credentialIn f i .period ≡ periodOf f i
   period-at i l = good-period f h i (good i l)
 
   -- however many there are, the ends are the from values, and the to values plus one
@@ -119,13 +119,26 @@ module _ (f : List ℕ) (h : Head f) (good : GoodBelow f (N f)) where
             subst⁻¹ Bound e b,
           )
 
-module _ (f : List ℕ) (a : Accepted f) where
-  pub accepted-fits : FitsAll (credentials f)
+  -- their roles and sets are within the format's numbers
+  pub credentials-fit : FitsAll (credentials f)
   unfolding credentials
-  accepted-fits c m =
+  credentials-fit c m =
       let r = map-out (credentialIn f) (below (N f)) m in
       subst⁻¹ (λ (x : Credential). (x .statement .head < 1024) × SetFits (x .statement .body)) (r .2)
-      (good-fits f (a .head) (r .0) (a .good (r .0) (below-out (N f) (r .1))))
+      (good-fits f h (r .0) (good (r .0) (below-out (N f) (r .1))))
+
+  -- no serial is zero, and none is that of two positions
+  pub distinct-serials : ((i : ℕ) → i < N f → ¬ (serialOf f i ≡ 0)) × ((i j : ℕ) → i < N f → j < N f → serialOf f i ≡ serialOf f j → i ≡ j)
+  distinct-serials = ((λ i l. good i l .serial .some), λ i j l m e. go i j l m e (less i j) (less j i))
+    where
+      go : (i j : ℕ) → i < N f → j < N f → serialOf f i ≡ serialOf f j → (i < j) ⊎ (j ≤ i) → (j < i) ⊎ (i ≤ j) → i ≡ j
+      go i j l m e (inl h) k = absurd (good j m .serial .new i h e)
+      go i j l m e (inr h) (inl k) = absurd (good i l .serial .new j k (sym e))
+      go i j l m e (inr h) (inr k) = omega arith
+
+module _ (f : List ℕ) (a : Accepted f) where
+  pub accepted-fits : FitsAll (credentials f)
+  accepted-fits = credentials-fit f (a .head) (a .good)
 
   -- each position below N holds its credential, as a value that means it
   pub accepted-found : (i : ℕ) → i < N f → Read f i
@@ -149,14 +162,8 @@ module _ (f : List ℕ) (a : Accepted f) where
       subst⁻¹ (λ (v : Period). T (covers v m) ↔ ((fromOf f i ≤ m) × (m ≤ toOf f i))) (accepted-period i h)
       ((λ t. (o t .0, let b = o t .1 in omega arith)), (λ b. covers-in (periodOf f i) m (b .0) (let l = b .1 in omega arith)))
 
-  -- no serial is zero, and none is that of two positions
   pub accepted-serials : ((i : ℕ) → i < N f → ¬ (serialOf f i ≡ 0)) × ((i j : ℕ) → i < N f → j < N f → serialOf f i ≡ serialOf f j → i ≡ j)
-  accepted-serials = ((λ i l. a .good i l .serial .some), λ i j l m e. go i j l m e (less i j) (less j i))
-    where
-      go : (i j : ℕ) → i < N f → j < N f → serialOf f i ≡ serialOf f j → (i < j) ⊎ (j ≤ i) → (j < i) ⊎ (i ≤ j) → i ≡ j
-      go i j l m e (inl h) k = absurd (a .good j m .serial .new i h e)
-      go i j l m e (inr h) (inl k) = absurd (a .good i l .serial .new j k (sym e))
-      go i j l m e (inr h) (inr k) = omega arith
+  accepted-serials = distinct-serials f (a .head) (a .good)
 
   -- the ends are the from values, and the to values plus one
   pub accepted-ends : (x : ℕ) → Mem x (ends (credentials f)) ↔ ((i : ℕ) × (i < N f) × ((x ≡ fromOf f i) ⊎ (x ≡ toOf f i + 1)))

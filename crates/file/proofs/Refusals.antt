@@ -1,19 +1,21 @@
 -- Refusals 1 to 8 and 17 are given exactly under the documents' conditions.
 use mathlib.Core.Path.{_≡_, refl, sym, ap, ap₂, _∙_, subst, subst⁻¹}
-use mathlib.Core.Logic.{_⊎_, inl, inr, _↔_}
+use mathlib.Core.Logic.{_⊎_, inl, inr, _↔_, dite}
 use mathlib.Core.Bool.{Bool, true, false, _&&_, not}
-use mathlib.Core.List.{List, [], _∷_, _++_, append-assoc, List·Memᴰ as Mem, List·Memᴰ·head as head, List·Memᴰ·tail as tail}
+use mathlib.Core.List.{List, [], _∷_, _++_, append-assoc, append-nil, List·Memᴰ as Mem, List·Memᴰ·head as head, List·Memᴰ·tail as tail}
 use Prim.Native.Nat.{ℕ, zero, suc, _+_, _-_, _<_, _≤_, zero-le}
 use native.Mathlib.Nat.{le-refl}
 use native.Mathlib.Omega.{arith}
+use native.Mathlib.Decide.{ℕ-discrete}
 use lib.Dec.{T, eqb, leb, ltb, eqb→eq, leb→le, le→leb, ltb→lt, lt→ltb, nltb→le, T-not, not-T}
 use lib.ListN.{length}
 use Rattle.meaning.specs.Lists.{all, each, upFrom, below}
 use Rattle.meaning.specs.Table.{ends}
 use Rattle.meaning.proofs.Tests.{and-in, and-left, and-right, eq-in, all-out}
-use Rattle.file.specs.Refusals.{RefusalRow, Outcome, done, refused, first, _when_, _at_when_}
+use Rattle.file.specs.Refusals.{RefusalRow, Outcome, done, refused, first, numberOf, _when_, _at_when_}
 use Rattle.file.specs.Format.{E, R, N, lengthFor, field, credentials}
-use Rattle.file.specs.Reading.{between, uses, inRange, zeros, undated, headRows, serialRow, checkRows, endsRow, reading, read, ofFile}
+use Rattle.file.specs.Reading.{between, uses, inRange, zeros, undated, headRows, serialRow, checkRows, credentialsRows, endsRow, reading, read, ofFile}
+use Rattle.file.specs.Values.{firstNumber}
 use Rattle.file.proofs.Dating.{undated-in, not-both, dated-or-not}
 use Rattle.file.proofs.Serials.{taken-in, not-taken, fresh-or-taken}
 use Rattle.file.specs.Conditions.{Limits, Head, Ranges, Zeros, Dated, Undated, Fresh, Taken, Good, GoodBelow, Accepted, Reached, Refused, short, limits, wrongLength, kind, range, unused, period, serial, tooManyEnds}
@@ -116,9 +118,9 @@ module _ (f : List ℕ) where
   abbrev periodRow : ℕ → RefusalRow
   periodRow i = 7 at i when (undated f i)
 
-  -- the rows of n credentials from i on, and then the row of 8
-  abbrev rowsFrom : ℕ → ℕ → List RefusalRow
-  rowsFrom i n = each (checkRows f) (upFrom i n) ++ endsRow f ∷ []
+  -- the rows of n credentials from i on, and then some more
+  abbrev rowsFrom : List RefusalRow → ℕ → ℕ → List RefusalRow
+  rowsFrom more i n = each (checkRows f) (upFrom i n) ++ more
 
 module _ {A : Type 0} (a : A) (f : List ℕ) where
   pub short-passes : 6 ≤ length f → (rows : List RefusalRow) → first (shortRow f ∷ rows) a ≡ first rows a
@@ -159,74 +161,95 @@ module _ {A : Type 0} (a : A) (f : List ℕ) where
       ∙ range-passes i (zerosRow f i ∷ periodRow f i ∷ serialRow f i ∷ rows) (g .ranges) ∙ zeros-pass i (periodRow f i ∷ serialRow f i ∷ rows) (g .zeros)
       ∙ period-passes i (serialRow f i ∷ rows) (g .period) ∙ serial-passes i rows (g .serial)
 
-  one-more : (i n : ℕ) → rowsFrom f i (suc n) ≡ checkRows f i ++ rowsFrom f (suc i) n
-  one-more i n = append-assoc (checkRows f i) (each (checkRows f) (upFrom (suc i) n)) (endsRow f ∷ [])
+  -- what follows 1 to 7 and 17
+  module _ (more : List RefusalRow) where
+    one-more : (i n : ℕ) → rowsFrom f more i (suc n) ≡ checkRows f i ++ rowsFrom f more (suc i) n
+    one-more i n = append-assoc (checkRows f i) (each (checkRows f) (upFrom (suc i) n)) more
 
-  -- k good credentials are passed over
-  good-pass : (k i t n u : ℕ) → k + i ≡ t → k + n ≡ u → ((j : ℕ) → i ≤ j → j < t → Good f j) → first (rowsFrom f i u) a ≡ first (rowsFrom f t n) a
-  good-pass zero i t n u e d h =
-      let p : i ≡ t = omega arith in
-      let q : u ≡ n = omega arith in
-      ap₂ (λ (j k : ℕ). first (rowsFrom f j k) a) p q
-  good-pass (suc k) i t n u e d h =
-      let q : u ≡ suc (k + n) = omega arith in
-      ap (λ (j : ℕ). first (rowsFrom f i j) a) q ∙ ap (λ (rows : List RefusalRow). first rows a) (one-more i (k + n))
-      ∙ good-passes i (h i (le-refl i) (omega arith)) (rowsFrom f (suc i) (k + n))
-      ∙ good-pass k (suc i) t n (k + n) (omega arith) refl (λ j l m. h j (omega arith) m)
+    -- k good credentials are passed over
+    good-pass : (k i t n u : ℕ) → k + i ≡ t → k + n ≡ u → ((j : ℕ) → i ≤ j → j < t → Good f j) → first (rowsFrom f more i u) a ≡ first (rowsFrom f more t n) a
+    good-pass zero i t n u e d h =
+        let p : i ≡ t = omega arith in
+        let q : u ≡ n = omega arith in
+        ap₂ (λ (j k : ℕ). first (rowsFrom f more j k) a) p q
+    good-pass (suc k) i t n u e d h =
+        let q : u ≡ suc (k + n) = omega arith in
+        ap (λ (j : ℕ). first (rowsFrom f more i j) a) q ∙ ap (λ (rows : List RefusalRow). first rows a) (one-more i (k + n))
+        ∙ good-passes i (h i (le-refl i) (omega arith)) (rowsFrom f more (suc i) (k + n))
+        ∙ good-pass k (suc i) t n (k + n) (omega arith) refl (λ j l m. h j (omega arith) m)
 
-  -- reading comes to what follows the credentials below t
-  good-read : (t n : ℕ) → Head f → N f ≡ t + n → GoodBelow f t → read f a ≡ first (rowsFrom f t n) a
-  unfolding reading
-  good-read t n h e g = head-passes h (rowsFrom f 0 (N f)) ∙ good-pass t 0 t n (N f) (omega arith) (sym e) (λ j l m. g j m)
+    -- all rows
+    abbrev rows : List RefusalRow
+    rows = headRows f ++ rowsFrom f more 0 (N f)
 
-  reached-read : (i : ℕ) → Reached f i → (n : ℕ) × (read f a ≡ first (checkRows f i ++ rowsFrom f (suc i) n) a)
-  reached-read i r =
-      let n = N f - suc i in
-      let b = r .below in
-      (n, good-read i (suc n) (r .head) (omega arith) (r .good) ∙ ap (λ (rows : List RefusalRow). first rows a) (one-more i n))
+    -- they come to what follows the credentials below t
+    good-read : (t n : ℕ) → Head f → N f ≡ t + n → GoodBelow f t → first rows a ≡ first (rowsFrom f more t n) a
+    good-read t n h e g = head-passes h (rowsFrom f more 0 (N f)) ∙ good-pass t 0 t n (N f) (omega arith) (sym e) (λ j l m. g j m)
 
-  -- ---- the conditions give the refusals
+    -- a file that passes 1 to 7 and 17 is judged by the rows that follow
+    pub credentials-pass : Head f → GoodBelow f (N f) → first rows a ≡ first more a
+    credentials-pass h g = good-read (N f) 0 h (omega arith) g
+
+    reached-read : (i : ℕ) → Reached f i → (n : ℕ) × (first rows a ≡ first (checkRows f i ++ rowsFrom f more (suc i) n) a)
+    reached-read i r =
+        let n = N f - suc i in
+        let b = r .below in
+        (n, good-read i (suc n) (r .head) (omega arith) (r .good) ∙ ap (λ (xs : List RefusalRow). first xs a) (one-more i n))
+
+    -- ---- the conditions give the refusals
+
+    -- those of 1 to 7 and 17, whatever follows
+    pub refused-before : {n p : ℕ} → Refused f n p → ¬ (n ≡ 8) → _≡_ {A = Outcome A} (first rows a) (refused n p)
+    refused-before (short h) b = give a (shortRow f) (limitsRow f ∷ lengthRow f ∷ rowsFrom f more 0 (N f)) (lt→ltb (length f) 6 h)
+    refused-before (limits h l) b =
+        short-passes h (limitsRow f ∷ lengthRow f ∷ rowsFrom f more 0 (N f))
+        ∙ give a (limitsRow f) (lengthRow f ∷ rowsFrom f more 0 (N f)) (not-T (limitsTest f) (λ t. l (limits-out f t)))
+    refused-before (wrongLength h l e) b =
+        short-passes h (limitsRow f ∷ lengthRow f ∷ rowsFrom f more 0 (N f)) ∙ limits-pass l (lengthRow f ∷ rowsFrom f more 0 (N f))
+        ∙ give a (lengthRow f) (rowsFrom f more 0 (N f)) (not-T (eqb (length f) (lengthFor (N f))) (λ t. e (eqb→eq _ _ t)))
+    refused-before (kind i r h) b =
+        let x = reached-read i r in
+        let after = serialRow f i ∷ rowsFrom f more (suc i) (x .0) in
+        x .1 ∙ give a (kindRow f i) (rangeRow f i ∷ zerosRow f i ∷ periodRow f i ∷ after) (lt→ltb 5 (field f i 0) h)
+    refused-before (range i r k h) b =
+        let x = reached-read i r in
+        let after = zerosRow f i ∷ periodRow f i ∷ serialRow f i ∷ rowsFrom f more (suc i) (x .0) in
+        x .1 ∙ kind-passes i (rangeRow f i ∷ after) k ∙ give a (rangeRow f i) after (not-T (inRange f i) (λ t. h (ranges-out f i t)))
+    refused-before (unused i r k s h) b =
+        let x = reached-read i r in
+        let after = periodRow f i ∷ serialRow f i ∷ rowsFrom f more (suc i) (x .0) in
+        x .1 ∙ kind-passes i (rangeRow f i ∷ zerosRow f i ∷ after) k ∙ range-passes i (zerosRow f i ∷ after) s
+        ∙ give a (zerosRow f i) after (not-T (zeros f i) (λ t. h (zeros-out f i t)))
+    refused-before (period i r k s z h) b =
+        let x = reached-read i r in
+        let after = serialRow f i ∷ rowsFrom f more (suc i) (x .0) in
+        x .1 ∙ kind-passes i (rangeRow f i ∷ zerosRow f i ∷ periodRow f i ∷ after) k ∙ range-passes i (zerosRow f i ∷ periodRow f i ∷ after) s
+        ∙ zeros-pass i (periodRow f i ∷ after) z ∙ give a (periodRow f i) after (undated-in f i h)
+    refused-before (serial i r k s z d h) b =
+        let x = reached-read i r in
+        let after = rowsFrom f more (suc i) (x .0) in
+        x .1 ∙ kind-passes i (rangeRow f i ∷ zerosRow f i ∷ periodRow f i ∷ serialRow f i ∷ after) k
+        ∙ range-passes i (zerosRow f i ∷ periodRow f i ∷ serialRow f i ∷ after) s ∙ zeros-pass i (periodRow f i ∷ serialRow f i ∷ after) z
+        ∙ period-passes i (serialRow f i ∷ after) d ∙ give a (serialRow f i) after (taken-in f i h)
+    refused-before (tooManyEnds h g l) b = absurd (b refl)
 
   pub accepted-read : Accepted f → _≡_ {A = Outcome A} (read f a) (done a)
+  unfolding reading
   accepted-read c =
-      good-read (N f) 0 (c .head) (omega arith) (c .good)
+      credentials-pass (endsRow f ∷ []) (c .head) (c .good)
       ∙ pass a (endsRow f) [] (λ t. let h = c .few in omega (arith, ltb→lt 64 (length (ends (credentials f))) t))
 
   pub refused-read : {n p : ℕ} → Refused f n p → _≡_ {A = Outcome A} (read f a) (refused n p)
   unfolding reading
-  refused-read (short h) = give a (shortRow f) (limitsRow f ∷ lengthRow f ∷ rowsFrom f 0 (N f)) (lt→ltb (length f) 6 h)
-  refused-read (limits h l) =
-      short-passes h (limitsRow f ∷ lengthRow f ∷ rowsFrom f 0 (N f))
-      ∙ give a (limitsRow f) (lengthRow f ∷ rowsFrom f 0 (N f)) (not-T (limitsTest f) (λ t. l (limits-out f t)))
-  refused-read (wrongLength h l e) =
-      short-passes h (limitsRow f ∷ lengthRow f ∷ rowsFrom f 0 (N f)) ∙ limits-pass l (lengthRow f ∷ rowsFrom f 0 (N f))
-      ∙ give a (lengthRow f) (rowsFrom f 0 (N f)) (not-T (eqb (length f) (lengthFor (N f))) (λ t. e (eqb→eq _ _ t)))
-  refused-read (kind i r h) =
-      let x = reached-read i r in
-      let rows = serialRow f i ∷ rowsFrom f (suc i) (x .0) in
-      x .1 ∙ give a (kindRow f i) (rangeRow f i ∷ zerosRow f i ∷ periodRow f i ∷ rows) (lt→ltb 5 (field f i 0) h)
-  refused-read (range i r k h) =
-      let x = reached-read i r in
-      let rows = zerosRow f i ∷ periodRow f i ∷ serialRow f i ∷ rowsFrom f (suc i) (x .0) in
-      x .1 ∙ kind-passes i (rangeRow f i ∷ rows) k ∙ give a (rangeRow f i) rows (not-T (inRange f i) (λ t. h (ranges-out f i t)))
-  refused-read (unused i r k s h) =
-      let x = reached-read i r in
-      let rows = periodRow f i ∷ serialRow f i ∷ rowsFrom f (suc i) (x .0) in
-      x .1 ∙ kind-passes i (rangeRow f i ∷ zerosRow f i ∷ rows) k ∙ range-passes i (zerosRow f i ∷ rows) s
-      ∙ give a (zerosRow f i) rows (not-T (zeros f i) (λ t. h (zeros-out f i t)))
-  refused-read (period i r k s z h) =
-      let x = reached-read i r in
-      let rows = serialRow f i ∷ rowsFrom f (suc i) (x .0) in
-      x .1 ∙ kind-passes i (rangeRow f i ∷ zerosRow f i ∷ periodRow f i ∷ rows) k ∙ range-passes i (zerosRow f i ∷ periodRow f i ∷ rows) s
-      ∙ zeros-pass i (periodRow f i ∷ rows) z ∙ give a (periodRow f i) rows (undated-in f i h)
-  refused-read (serial i r k s z d h) =
-      let x = reached-read i r in
-      let rows = rowsFrom f (suc i) (x .0) in
-      x .1 ∙ kind-passes i (rangeRow f i ∷ zerosRow f i ∷ periodRow f i ∷ serialRow f i ∷ rows) k
-      ∙ range-passes i (zerosRow f i ∷ periodRow f i ∷ serialRow f i ∷ rows) s ∙ zeros-pass i (periodRow f i ∷ serialRow f i ∷ rows) z
-      ∙ period-passes i (serialRow f i ∷ rows) d ∙ give a (serialRow f i) rows (taken-in f i h)
-  refused-read (tooManyEnds h g l) =
-      good-read (N f) 0 h (omega arith) g ∙ give a (endsRow f) [] (lt→ltb 64 (length (ends (credentials f))) l)
+  refused-read (tooManyEnds h g l) = credentials-pass (endsRow f ∷ []) h g ∙ give a (endsRow f) [] (lt→ltb 64 (length (ends (credentials f))) l)
+  refused-read (short h) = refused-before (endsRow f ∷ []) (short h) (λ e. absurd (omega arith))
+  refused-read (limits h l) = refused-before (endsRow f ∷ []) (limits h l) (λ e. absurd (omega arith))
+  refused-read (wrongLength h l e) = refused-before (endsRow f ∷ []) (wrongLength h l e) (λ z. absurd (omega arith))
+  refused-read (kind i r h) = refused-before (endsRow f ∷ []) (kind i r h) (λ e. absurd (omega arith))
+  refused-read (range i r k h) = refused-before (endsRow f ∷ []) (range i r k h) (λ e. absurd (omega arith))
+  refused-read (unused i r k s h) = refused-before (endsRow f ∷ []) (unused i r k s h) (λ e. absurd (omega arith))
+  refused-read (period i r k s z h) = refused-before (endsRow f ∷ []) (period i r k s z h) (λ e. absurd (omega arith))
+  refused-read (serial i r k s z d h) = refused-before (endsRow f ∷ []) (serial i r k s z d h) (λ e. absurd (omega arith))
 
 -- ---- one of the conditions holds
 
@@ -380,3 +403,33 @@ refused-some f {n} r = go n (refused-of-file f r)
 -- a number that is none of them is not the number of a file's refusal
 pub not-of-file : (f : List ℕ) {n p : ℕ} → Refused f n p → (m : ℕ) → T (not (ofFile m)) → ¬ (n ≡ m)
 not-of-file f r m t e = T-not (ofFile m) t (subst (λ (k : ℕ). T (ofFile k)) e (refused-of-file f r))
+
+-- ---- 8
+
+module _ (f : List ℕ) where
+  -- 8 is given after 1 to 7 and 17
+  pub eight-readable : {n p : ℕ} → Refused f n p → n ≡ 8 → Head f × GoodBelow f (N f)
+  eight-readable (short h) e = absurd (omega arith)
+  eight-readable (limits h l) e = absurd (omega arith)
+  eight-readable (wrongLength h l q) e = absurd (omega arith)
+  eight-readable (kind i r h) e = absurd (omega arith)
+  eight-readable (range i r k h) e = absurd (omega arith)
+  eight-readable (unused i r k s h) e = absurd (omega arith)
+  eight-readable (period i r k s z h) e = absurd (omega arith)
+  eight-readable (serial i r k s z d h) e = absurd (omega arith)
+  eight-readable (tooManyEnds h g l) e = (h, g)
+
+  -- rows of 1 to 7 and 17 none of which holds
+  pub clear-readable : firstNumber (headRows f ++ credentialsRows f) ≡ 0 → Head f × GoodBelow f (N f)
+  clear-readable e = go (verdict f)
+    where
+      refuses : {n p : ℕ} → Refused f n p → ¬ (n ≡ 8) → ⊥
+      refuses {n} {p} r h =
+          let s = refused-some f r in
+          let x : firstNumber (headRows f ++ (credentialsRows f ++ [])) ≡ n = ap (λ (o : Outcome ℕ). numberOf o) (refused-before {A = ℕ} 0 f [] r h) in
+          let y = ap (λ (rows : List RefusalRow). firstNumber (headRows f ++ rows)) (append-nil (credentialsRows f)) in
+          absurd (omega arith)
+
+      go : Verdict f → Head f × GoodBelow f (N f)
+      go (inl c) = (c .head, c .good)
+      go (inr (n, p, r)) = dite (ℕ-discrete n 8) (λ q. eight-readable r q) (λ q. absurd (refuses r q))

@@ -7,13 +7,13 @@ use native.Mathlib.Numerals.{add-one}
 use native.Mathlib.Omega.{arith}
 use lib.Dec.{T}
 use borrow.Author.Tests.{eq-eqb}
-use Rattle.meaning.specs.Lists.{each, upFrom}
+use Rattle.meaning.specs.Lists.{each, upFrom, below}
 use Rattle.file.specs.Refusals.{RefusalRow, _at_when_}
 use Rattle.file.specs.declared.Refusal.{Refusal}
 use Rattle.file.specs.Format.{N}
-use Rattle.file.specs.Reading.{taken, credentialRows, serialRow, checkRows, credentialsRows}
+use Rattle.file.specs.Reading.{taken, headRows, credentialRows, serialRow, checkRows, credentialsRows, endsRow, reading}
 use Rattle.file.specs.Values.{firstRefusal, firstNumber}
-use Rattle.file.proofs.First.{refusal-stopped, refusal-passed, refusal-number-at}
+use Rattle.file.proofs.First.{numbered, numbered-append, numbered-each, refusal-stopped, refusal-passed, refusal-number-at}
 
 module _ (f : List ℕ) (i : ℕ) where
   -- 4 to 7 decide, and where they pass, 17 does
@@ -35,6 +35,15 @@ module _ (f : List ℕ) (i : ℕ) where
   -- the rows of credential i and all after it
   abbrev pub rowsFrom : List RefusalRow
   rowsFrom = each (checkRows f) (upFrom i (N f - i))
+
+-- every row has a number
+module _ (f : List ℕ) where
+  pub credentials-numbered : T (numbered (credentialsRows f))
+  credentials-numbered = numbered-each (checkRows f) (below (N f)) (λ i. tt)
+
+  pub reading-numbered : T (numbered (reading f))
+  unfolding reading
+  reading-numbered = numbered-append (headRows f) (credentialsRows f ++ endsRow f ∷ []) tt (numbered-append (credentialsRows f) (endsRow f ∷ []) credentials-numbered tt)
 
 module _ (f : List ℕ) where
   pub rows-start : firstRefusal (credentialsRows f) ≡ firstRefusal (rowsFrom f 0)

@@ -1,6 +1,6 @@
 // The credentials file: its credentials as types, its sizes with refusals 1 to 3, and of one credential its serial and its period.
 ghost use mathlib.Core.Path.{_≡_};
-ghost use Prim.Native.Nat.{_+_, _*_, _<_, _≤_};
+ghost use Prim.Native.Nat.{_+_, _*_, _<_, _≤_, min};
 ghost use lib.ListN.{length};
 ghost use mathlib.Core.Bool.{_&&_};
 ghost use Rattle.meaning.specs.Credentials.{_·_};
@@ -47,6 +47,21 @@ pub enum Found {
 pub struct Period {
     pub from: u32,
     pub until: u32,
+}
+
+impl Period {
+    // Its minutes before a minute. None are left where that is `from` or earlier.
+    pub fn before(self, minute: u32) -> Period
+        ensures { λ r. ⌜ r ≡ record { from = self .from; until = min (self .until) minute } ⌝ }
+    {
+        if self.until <= minute {
+            return self;
+        }
+        Period {
+            from: self.from,
+            until: minute,
+        }
+    }
 }
 
 // The first and the last minute of a period, as the file has them.
@@ -141,7 +156,8 @@ pub fn role_number(issuer: Entity, name: RoleName) -> u32
     widths::wide8(issuer.0) * 32 + widths::wide8(name.0)
 }
 
-fn two_at(file: &[u8], p: usize) -> u32
+// Two bytes from p on, and four, lowest first.
+pub fn two_at(file: &[u8], p: usize) -> u32
     requires { ⌜ p + 2 ≤ length (now file) ⌝ }
     ensures { λ r. ⌜ (r ≡ two (now (file .entry)) p) × (r < 65536) ⌝ }
 {
@@ -150,7 +166,7 @@ fn two_at(file: &[u8], p: usize) -> u32
     low + 256 * high
 }
 
-fn four_at(file: &[u8], p: usize) -> u32
+pub fn four_at(file: &[u8], p: usize) -> u32
     requires { ⌜ p + 4 ≤ length (now file) ⌝ }
     ensures { λ r. ⌜ r ≡ four (now (file .entry)) p ⌝ }
 {

@@ -13,9 +13,9 @@ use Rattle.meaning.specs.Lists.{if}
 use Rattle.meaning.specs.Members.{members}
 use Rattle.meaning.proofs.Claims.{least-proof, least-level-bound}
 use Rattle.file.specs.Refusals.{Outcome, done}
-use Rattle.file.specs.Format.{credentials}
-use Rattle.file.specs.Conditions.{Accepted}
-use Rattle.file.proofs.Accepted.{accepted-fits}
+use Rattle.withdrawals.specs.Source.{Source, credentials}
+use Rattle.withdrawals.specs.Conditions.{Accepted}
+use Rattle.withdrawals.proofs.Credentials.{accepted-fits}
 use Rattle.asking.specs.Asking.{Request, StepLists}
 use Rattle.completing.specs.Completing.{Lent, tableEnding, completing}
 use Rattle.querying.specs.Querying.{Counts, levelFor}
@@ -39,7 +39,7 @@ use Rattle.interface.proofs.Queried as Queried
 
 -- ---- demand 3
 
-module _ (f : List ℕ) (before after : Lent) (count : ℕ) (replied : count ≡ word (λ n. n) (completeBytes f before .reply)) (lists : after ≡ completeBytes f before .lists) (small : count < 4294967296) (q : Request) (range : InRange f q) where
+module _ (f : Source) (before after : Lent) (count : ℕ) (replied : count ≡ word (λ n. n) (completeBytes f before .reply)) (lists : after ≡ completeBytes f before .lists) (small : count < 4294967296) (q : Request) (range : InRange f q) where
   abbrev L : ℕ
   L = entryCount (before .roles)
 

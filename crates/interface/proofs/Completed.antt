@@ -10,13 +10,12 @@ use Rattle.meaning.specs.Lists.{if}
 use Rattle.meaning.specs.Table.{Row, table}
 use Rattle.meaning.proofs.Tests.{and-right, is-true}
 use Rattle.file.specs.Refusals.{Outcome, done, _when_, left}
-use Rattle.file.specs.Format.{credentials}
-use Rattle.file.specs.Reading.{between, reading}
-use Rattle.file.specs.Conditions.{Accepted}
+use Rattle.file.specs.Reading.{between}
 use Rattle.file.proofs.First.{first-holds, holds-first, numbered-append}
-use Rattle.file.proofs.Refusals.{accepted-exact}
-use Rattle.file.proofs.Accepted.{accepted-fits}
-use Rattle.survey.proofs.Surveying.{reading-numbered}
+use Rattle.withdrawals.specs.Source.{Source, credentials, reading}
+use Rattle.withdrawals.specs.Conditions.{Accepted}
+use Rattle.withdrawals.proofs.Credentials.{accepted-fits, reading-numbered}
+use Rattle.withdrawals.proofs.Refusals.{accepted-exact}
 use Rattle.asking.proofs.Asked.{all-left, all-right}
 use Rattle.writing.specs.Columns.{column}
 use Rattle.completing.specs.Completing.{Lent, lentRow, tableFullRow, replyTo, tableEnding, completing}
@@ -30,13 +29,13 @@ use Rattle.interface.proofs.Reading.{entries-bytesOf, word-done}
 use Rattle.interface.proofs.Widths.{column-low, row-low, spans-low}
 
 -- 9 for bytes that are not whole entries is no value
-nine-refused : (f : List ℕ) → word (λ n. n) (notWhole f 0) < 4294967296 → ⊥
+nine-refused : (f : Source) → word (λ n. n) (notWhole f 0) < 4294967296 → ⊥
 nine-refused f l =
     let rows = reading f ++ 9 when true ∷ [] in
     let e = word-done (λ (n : ℕ). n) rows 0 (numbered-append (reading f) (9 when true ∷ []) (reading-numbered f) tt) l in
     all-right (λ r. not (r .holds)) (reading f) (9 when true ∷ []) (first-holds rows 0 0 e)
 
-module _ (f : List ℕ) (before after : Lent) (count : ℕ) (replied : count ≡ word (λ n. n) (completeBytes f before .reply)) (lists : after ≡ completeBytes f before .lists) (small : count < 4294967296) where
+module _ (f : Source) (before after : Lent) (count : ℕ) (replied : count ≡ word (λ n. n) (completeBytes f before .reply)) (lists : after ≡ completeBytes f before .lists) (small : count < 4294967296) where
   abbrev rows : List Row
   rows = table (credentials f)
 

@@ -10,11 +10,10 @@ use lib.ListN.{length, replicate, length-append, length-map, length-replicate}
 use Rattle.meaning.specs.Lists.{if}
 use Rattle.meaning.specs.Proofs.{Step}
 use Rattle.file.specs.Refusals.{Outcome, done, left}
-use Rattle.file.specs.Format.{credentials}
 use Rattle.file.specs.Reading.{between}
-use Rattle.file.specs.Conditions.{Accepted}
-use Rattle.file.proofs.Claims.{as-many-credentials}
-use Rattle.file.proofs.Accepted.{accepted-fits}
+use Rattle.withdrawals.specs.Source.{Source, credentials}
+use Rattle.withdrawals.specs.Conditions.{Accepted}
+use Rattle.withdrawals.proofs.Credentials.{length-credentials, accepted-fits}
 use Rattle.asking.specs.Asking.{Request, StepLists, stepLists, size, oneLength}
 use Rattle.derivation.specs.HandedOut.{words}
 use Rattle.querying.specs.Querying as Q
@@ -31,7 +30,7 @@ use Rattle.interface.proofs.Reading.{entries-left, left-length}
 use Rattle.interface.proofs.Widths.{column-low, Low, steps-low}
 
 -- checking on whole entries
-pub check-entries : (f : List ℕ) (q : Request) (b : StepLists) (L steps : ℕ) → StepSizes b L → checkReply f q b steps ≡ checking f q (stepListsIn b) steps
+pub check-entries : (f : Source) (q : Request) (b : StepLists) (L steps : ℕ) → StepSizes b L → checkReply f q b steps ≡ checking f q (stepListsIn b) steps
 unfolding checkReply
 check-entries f q b L steps z = ap (λ (w : Bool). if w (checking f q (stepListsIn b) steps) (notWhole f 0)) (steps-whole b L z)
 
@@ -42,7 +41,7 @@ one-length b L z some =
     let c = as-long (b .credential) (z .credential) in
     rw (as-long (b .first) (z .first), as-long (b .second) (z .second), as-long (b .sets) (z .sets), c, eq-eqb L L refl, some) refl
 
-module _ (f : List ℕ) (a : Accepted f) (q : Request) (b b′ : StepLists) (L r : ℕ) (z : StepSizes b L) (d : QueriedBytes f q b r b′) where
+module _ (f : Source) (a : Accepted f) (q : Request) (b b′ : StepLists) (L r : ℕ) (z : StepSizes b L) (d : QueriedBytes f q b r b′) where
   abbrev ss : List Step
   ss = d .steps
 
@@ -98,7 +97,7 @@ module _ (f : List ℕ) (a : Accepted f) (q : Request) (b b′ : StepLists) (L r
           ∙ long
 
   fit-credential : (s : Step) → Low (length (credentials f)) 1024 s → s .credential < 256 ^ 4
-  fit-credential s l = omega (arith, l .credential, as-many-credentials f, a .head .limits .credentials)
+  fit-credential s l = omega (arith, l .credential, length-credentials f, a .readable .head .limits .credentials)
 
   fit-first : (s : Step) → Low (length (credentials f)) 1024 s → s .first < 256 ^ 4
   fit-first s l = omega (arith, l .first)

@@ -1,5 +1,5 @@
 -- Demand 3 (document 01) on bytes: one claim over rtt_complete, rtt_query and rtt_check, the calls of the server's program.
--- `completeBytes`, `QueriedBytes` and `checkReply` are what the contracts of the three say of their replies and bytes. One file f stands in all three.
+-- `completeBytes`, `QueriedBytes` and `checkReply` are what the contracts of the three say of their replies and bytes. One file with one withdrawal list, the source f, stands in all three.
 -- `lentIn` and `stepListsIn` read entries from bytes. Written validity, proofs and requests are those of the claim on lists (crates/joint).
 use mathlib.Core.Path.{_≡_}
 use mathlib.Core.Logic.{_↔_}
@@ -7,7 +7,7 @@ use mathlib.Core.List.{List}
 use Prim.Native.Nat.{ℕ, _+_, _*_, _≤_, _<_}
 use lib.ListN.{length, take}
 use Rattle.meaning.specs.Proofs.{Step, Proof}
-use Rattle.file.specs.Format.{credentials}
+use Rattle.withdrawals.specs.Source.{Source, credentials}
 use Rattle.asking.specs.Asking.{Request, StepLists, stepIn, stepsIn}
 use Rattle.derivation.specs.HandedOut.{HandedOut}
 use Rattle.completing.specs.Completing.{Lent}
@@ -19,7 +19,7 @@ use Rattle.query_bytes.specs.Interface.{QueriedBytes}
 use Rattle.check_bytes.specs.Interface.{checkReply}
 
 -- A proof was handed out: r is the query's reply, and b are the bytes as it left them.
-pub record GivenBytes (f : List ℕ) (q : Request) (r : ℕ) (b : StepLists) : Type 0 where
+pub record GivenBytes (f : Source) (q : Request) (r : ℕ) (b : StepLists) : Type 0 where
   pub steps : ℕ
   pub level : ℕ
   -- the reply is steps + level × 65,536; it determines both, and is below every refusal's
@@ -36,23 +36,23 @@ pub record GivenBytes (f : List ℕ) (q : Request) (r : ℕ) (b : StepLists) : T
   pub least : (k : ℕ) (ss : List Step) → Proof (credentials f) (q .minute) (q .role) (q .set) k ss → level ≤ k
 
 -- after a query that replied r and left the bytes b
-pub record AfterQueryBytes (f : List ℕ) (q : Request) (r : ℕ) (b : StepLists) : Type 0 where
+pub record AfterQueryBytes (f : Source) (q : Request) (r : ℕ) (b : StepLists) : Type 0 where
   -- if a proof exists, one was handed out
   pub given : SomeProof f q → GivenBytes f q r b
   -- the reply is 13 with place 0 exactly when none exists
   pub none : r ≡ 13 * 4294967296 ↔ ¬ SomeProof f q
 
 -- of one completed table, whose bytes rtt_complete left as `after`, and one request
-pub record JointBytes (f : List ℕ) (after : Lent) (size count : ℕ) (q : Request) : Type 0 where
+pub record JointBytes (f : Source) (after : Lent) (size count : ℕ) (q : Request) : Type 0 where
   -- the minute stands in the membership's written validity exactly when some proof exists
   pub validity : InWrittenValidity f (lentIn after) count q ↔ SomeProof f q
-  -- and a query of the same file ends as `AfterQueryBytes` says, with four lists of as many bytes as the list of roles has
+  -- and a query of the same file and list ends as `AfterQueryBytes` says, with four lists of as many bytes as the list of roles has
   pub query : (b b′ : StepLists) (r : ℕ) → Rooms b → length (b .credential) ≡ size → QueriedBytes f q b r b′ → AfterQueryBytes f q r b′
 
--- for every file for which rtt_complete replied a count (a refusal's reply is 4,294,967,296 or more), and every request in range
+-- for every file and withdrawal list for which rtt_complete replied a count (a refusal's reply is 4,294,967,296 or more), and every request in range
 abbrev pub Demand3Bytes : Type 0
 Demand3Bytes =
-    (f : List ℕ) (before after : Lent) (count : ℕ)
+    (f : Source) (before after : Lent) (count : ℕ)
     → count ≡ word (λ n. n) (completeBytes f before .reply) → after ≡ completeBytes f before .lists → count < 4294967296
     → (q : Request) → InRange f q
     → JointBytes f after (length (before .roles)) count q
@@ -71,4 +71,4 @@ pub record SameBefore (n : ℕ) (b c : StepLists) : Type 0 where
 
 -- rtt_check replies alike to bytes that are the same before byte 4 × steps of each list
 abbrev pub BytesBeforeCount : Type 0
-BytesBeforeCount = (f : List ℕ) (q : Request) (b c : StepLists) (steps : ℕ) → SameBefore (4 * steps) b c → checkReply f q b steps ≡ checkReply f q c steps
+BytesBeforeCount = (f : Source) (q : Request) (b c : StepLists) (steps : ℕ) → SameBefore (4 * steps) b c → checkReply f q b steps ≡ checkReply f q c steps

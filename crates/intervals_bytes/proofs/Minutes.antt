@@ -14,8 +14,8 @@ use Rattle.meaning.proofs.Tests.{any-in}
 use Rattle.meaning.proofs.ListLaws.{place-in}
 use Rattle.meaning.proofs.Spans.{covers-in, span-out, in-spans}
 use Rattle.meaning.proofs.Claims.{interval-minutes, intervals-apart}
-use Rattle.file.specs.Conditions.{Accepted}
-use Rattle.file.specs.Format.{credentials}
+use Rattle.withdrawals.specs.Source.{Source, credentials}
+use Rattle.withdrawals.specs.Conditions.{Accepted}
 use Rattle.replies.specs.Interface.{Bytes}
 use Rattle.replies.proofs.Widths.{end-low}
 use Rattle.intervals_bytes.specs.Interface.{bounds, pairsIn}
@@ -31,7 +31,7 @@ bounds-below limit (v ∷ vs) h x (head e) = let k = h v (head refl) in omega ar
 bounds-below limit (v ∷ vs) h x (tail (head e)) = let k = h v (head refl) in omega arith
 bounds-below limit (v ∷ vs) h x (tail (tail m)) = bounds-below limit vs (λ w j. h w (tail j)) x m
 
-module _ (f : List ℕ) (small : Bytes f) (accepted : Accepted f) (spans : ℕ) where
+module _ (f : Source) (small : Bytes (f .file)) (accepted : Accepted f) (spans : ℕ) where
   abbrev es : List ℕ
   es = ends (credentials f)
 

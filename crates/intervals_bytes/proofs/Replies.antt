@@ -13,9 +13,9 @@ use Rattle.meaning.specs.Credentials.{Period}
 use Rattle.meaning.specs.Table.{ends, spanCount, intervals}
 use Rattle.meaning.proofs.Intervals.{intervals-fit}
 use Rattle.file.specs.Refusals.{RefusalRow, Outcome, done, refused, first, _when_, left}
-use Rattle.file.specs.Format.{credentials}
-use Rattle.file.specs.Conditions.{Accepted, Refused}
-use Rattle.file.proofs.Refusals.{Verdict, verdict, refused-some, not-of-file}
+use Rattle.withdrawals.specs.Source.{Source, credentials}
+use Rattle.withdrawals.specs.Conditions.{Accepted, Refused}
+use Rattle.withdrawals.proofs.Refusals.{refused-some, Verdict, verdict, not-of-source}
 use Rattle.ends.specs.declared.Intervals.{Intervals}
 use Rattle.survey.specs.Ends.{padded}
 use Rattle.ends.specs.Intervals.{intervalsOut, intervalsIn}
@@ -28,7 +28,7 @@ use Rattle.intervals_bytes.specs.Bounds.{boundsIn, numberFor}
 use Rattle.intervals_bytes.proofs.Bounds.{padded-bounds, length-places}
 
 -- v is what `intervals_of` answers, and k the refusal's number after the test of the length
-module _ (f : List ℕ) (spans : ℕ) (b : List ℕ) (v : Intervals) (u : v ≡ intervalsIn f spans) (k : ℕ) (n : k ≡ numberFor (v .number) (length b)) where
+module _ (f : Source) (spans : ℕ) (b : List ℕ) (v : Intervals) (u : v ≡ intervalsIn f spans) (k : ℕ) (n : k ≡ numberFor (v .number) (length b)) where
   abbrev all : List ℕ
   all = ends (credentials f)
 
@@ -74,12 +74,12 @@ module _ (f : List ℕ) (spans : ℕ) (b : List ℕ) (v : Intervals) (u : v ≡ 
       let l = refused-some f r in
       let x : v ≡ intervalsOut (refused m p) = u ∙ ap intervalsOut (refused-first f (spanRow beyond) vs r) in
       let q : v .number ≡ m = ap (λ (y : Intervals). y .number) x in
-      let z : k ≡ m = n ∙ ap (λ (y : ℕ). numberFor y (length b)) q ∙ keep (not (eqb (length b) 256)) m (not-of-file f r 0 tt) (not-of-file f r 11 tt) in
+      let z : k ≡ m = n ∙ ap (λ (y : ℕ). numberFor y (length b)) q ∙ keep (not (eqb (length b) 256)) m (not-of-source f r 0 tt) (not-of-source f r 11 tt) in
       let w : v .place ≡ p = ap (λ (y : Intervals). y .place) x in
       record {
         reply = refused-first f (ownRows (eqb (length b) 256) beyond) (length vs) r ∙ (λ j. refused (sym z j) (sym w j));
         some = λ e. omega arith;
-        keeps = simp (ne-eqb k 10 (λ e. not-of-file f r 10 tt (sym z ∙ e)), ne-eqb k 13 (λ e. not-of-file f r 13 tt (sym z ∙ e)));
+        keeps = simp (ne-eqb k 10 (λ e. not-of-source f r 10 tt (sym z ∙ e)), ne-eqb k 13 (λ e. not-of-source f r 13 tt (sym z ∙ e)));
       }
     where
       keep : (t : Bool) (m : ℕ) → (m ≡ 0 → ⊥) → (m ≡ 11 → ⊥) → if (t && (eqb m 0 || eqb m 11)) 9 m ≡ m

@@ -10,6 +10,6 @@ abbrev pub boundsIn : List Interval → List ℕ
 boundsIn [] = []
 boundsIn (v ∷ vs) = v .from ∷ v .to ∷ boundsIn vs
 
--- 9 stands after the file's refusals and before 11
+-- 9 stands after the refusals of a file with its withdrawals and before 11
 abbrev pub numberFor : ℕ → ℕ → ℕ
 numberFor number size = if (not (eqb size 256) && (eqb number 0 || eqb number 11)) 9 number

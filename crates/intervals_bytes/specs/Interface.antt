@@ -7,8 +7,7 @@ use lib.ListN.{length}
 use Rattle.meaning.specs.Credentials.{Period}
 use Rattle.meaning.specs.Table.{ends, spanCount, intervals}
 use Rattle.file.specs.Refusals.{Outcome, first, _when_, left}
-use Rattle.file.specs.Format.{credentials}
-use Rattle.file.specs.Reading.{reading}
+use Rattle.withdrawals.specs.Source.{Source, credentials, reading}
 use Rattle.survey.specs.Ends.{padded}
 use Rattle.codec.specs.Bytes.{bytesOf}
 
@@ -23,12 +22,12 @@ pairsIn [] = []
 pairsIn (x ∷ []) = []
 pairsIn (x ∷ y ∷ l) = record { from = x; until = y } ∷ pairsIn l
 
--- 1 to 8 and 17, then 9 for any other length, then 11 for a bit beyond the last span; on success the count of the intervals
-unfoldable pub intervalsReply : List ℕ → ℕ → List ℕ → Outcome ℕ
+-- 1 to 8, 17, 20 and 21, then 9 for any other length, then 11 for a bit beyond the last span; on success the count of the intervals
+unfoldable pub intervalsReply : Source → ℕ → List ℕ → Outcome ℕ
 intervalsReply f spans b =
     let es : List ℕ = ends (credentials f) in
     first (reading f ++ (9 when (not (eqb (length b) 256)) ∷ 11 when (leb (2 ^ spanCount es) spans) ∷ [])) (length (intervals es spans))
 
 -- the bytes as the call leaves them: on success the pairs, and zeros after them
-unfoldable pub intervalsBytes : List ℕ → ℕ → List ℕ → List ℕ
+unfoldable pub intervalsBytes : Source → ℕ → List ℕ → List ℕ
 intervalsBytes f spans b = left (intervalsReply f spans b) b (bytesOf 4 (padded 64 (bounds (intervals (ends (credentials f)) spans))))

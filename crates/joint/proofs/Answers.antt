@@ -15,9 +15,9 @@ use Rattle.meaning.proofs.OrderLaws.{has-in, has-out}
 use Rattle.meaning.proofs.Rows.{members-derivable, valid-fits}
 use Rattle.meaning.proofs.Least.{provable-derivable, least-counted, proof-bound}
 use Rattle.file.specs.Refusals.{Outcome, done, refused, first, left}
-use Rattle.file.specs.Format.{credentials}
 use Rattle.file.specs.Reading.{between}
-use Rattle.file.proofs.Claims.{within-format}
+use Rattle.withdrawals.specs.Source.{Source, credentials}
+use Rattle.withdrawals.proofs.Claims.{within-format}
 use Rattle.asking.specs.Asking.{Request, StepLists, stepIn, stepsIn, size, oneLength, Askable}
 use Rattle.asking.proofs.Asked.{askable-passes}
 use Rattle.derivation.specs.HandedOut.{HandedOut, words}
@@ -38,7 +38,7 @@ words-length field n ss h =
 abbrev noStep : Step
 noStep = record { credential = 0; first = 0; second = 0; set = 0 }
 
-module _ (f : List ℕ) (q : Request) (t t′ : StepLists) (reply : Outcome Counts) (a : Askable f q t) (room : length (members (credentials f) (q .minute)) ≤ size t) (d : Queried f q t reply t′) where
+module _ (f : Source) (q : Request) (t t′ : StepLists) (reply : Outcome Counts) (a : Askable f q t) (room : length (members (credentials f) (q .minute)) ≤ size t) (d : Queried f q t reply t′) where
   w : FitsAll (credentials f)
   w = within-format f (a .accepted)
 

@@ -1,10 +1,10 @@
 -- The three calls, made one after the other, meet demand 3.
 use mathlib.Core.Path.{_≡_, refl, sym, ap, _∙_}
 use mathlib.Core.Bool.{true}
-use mathlib.Core.List.{List}
 use Prim.Native.Nat.{ℕ}
 use lib.ListN.{length}
 use Rattle.file.specs.Refusals.{Outcome, done, refused}
+use Rattle.withdrawals.specs.Source.{Source}
 use Rattle.asking.specs.Asking.{Request, StepLists, size, oneLength}
 use Rattle.completing.specs.Completing as Completing
 use Rattle.completing.specs.Completing.{Lent, completing}
@@ -27,7 +27,7 @@ steps-said : (a : Answer) → stepsOf a ≡ stepsIn (Querying.saysAnswer a)
 steps-said (A.Proof steps level) = refl
 steps-said (A.Refused n p) = refl
 
-pub together : {f : List ℕ} {q : Request} {before after : Lent} {t t′ : StepLists} {r : Replies} → Completing.tableEnding (Completing.saysCompleted (r .completed)) (after .roles) (after .sets) (after .spans) ≡ completing f before
+pub together : {f : Source} {q : Request} {before after : Lent} {t t′ : StepLists} {r : Replies} → Completing.tableEnding (Completing.saysCompleted (r .completed)) (after .roles) (after .sets) (after .spans) ≡ completing f before
     → Queried f q t (Querying.saysAnswer (r .answer)) t′ → Checking.saysChecked (r .checked) ≡ checking f q t′ (stepsOf (r .answer)) → Together f q before after t t′ r
 together {f} {q} {before} {after} {t} {t′} {r} c d e = record { completed = c; queried = d; checked = e; demand3 = holds }
   where

@@ -18,12 +18,11 @@ use Rattle.meaning.proofs.OrderLaws.{memberships}
 use Rattle.meaning.proofs.Least.{provable-derivable}
 use Rattle.meaning.proofs.Rows.{key, members-ascending, members-derivable, written-at, written-derivable, table-ascending}
 use Rattle.file.specs.Refusals.{Outcome, done, refused, left}
-use Rattle.file.specs.Format.{credentials}
-use Rattle.file.specs.Reading.{reading}
-use Rattle.file.specs.Conditions.{Accepted}
 use Rattle.file.proofs.First.{noneHolds, first-holds, holds-first}
-use Rattle.file.proofs.Refusals.{accepted-exact}
-use Rattle.file.proofs.Accepted.{accepted-fits}
+use Rattle.withdrawals.specs.Source.{Source, credentials, reading}
+use Rattle.withdrawals.specs.Conditions.{Accepted}
+use Rattle.withdrawals.proofs.Credentials.{accepted-fits}
+use Rattle.withdrawals.proofs.Refusals.{accepted-exact}
 use Rattle.asking.specs.Asking.{Request}
 use Rattle.asking.proofs.Asked.{all-left, all-right}
 use Rattle.writing.specs.Columns.{column}
@@ -43,7 +42,7 @@ members-within-table cs w m =
         let r = written-at (ends cs) (table cs) (p .role) (p .set) m .0 (written-derivable cs w m (p .role) (p .set) .1 (members-derivable cs w m .0 h)) .1 in
         cast (λ i. member (sym (r .2) i) (sym (r .3) i)) (map-in key (r .1))
 
-module _ (f : List ℕ) (before after : Lent) (count : ℕ) (says : tableEnding (done count) (after .roles) (after .sets) (after .spans) ≡ completing f before) where
+module _ (f : Source) (before after : Lent) (count : ℕ) (says : tableEnding (done count) (after .roles) (after .sets) (after .spans) ≡ completing f before) where
   abbrev rows : List Row
   rows = table (credentials f)
 

@@ -2,20 +2,20 @@
 use mathlib.Core.Path.{_≡_, subst⁻¹}
 use mathlib.Core.Logic.{inl, inr, _↔_}
 use mathlib.Core.Bool.{true}
-use mathlib.Core.List.{List}
 use Prim.Native.Nat.{ℕ, _≤_}
 use native.Mathlib.Omega.{arith}
 use lib.Dec.{T}
 use Rattle.file.specs.Refusals.{Outcome, refused, first}
-use Rattle.file.specs.Conditions.{Accepted}
-use Rattle.file.proofs.Refusals.{accepted-read, refused-read}
+use Rattle.withdrawals.specs.Source.{Source}
+use Rattle.withdrawals.specs.Conditions.{Accepted}
+use Rattle.withdrawals.proofs.Refusals.{accepted-read, refused-read}
 use Rattle.asking.specs.Asking.{Request, StepLists, oneLength, asking, Askable}
 use Rattle.asking.specs.Conditions.{RefusedRequest, file, lengths, numbers, minute}
 use Rattle.asking.proofs.Asked.{asking-done}
 use Rattle.asking.proofs.Requests.{lengths-out, request-refused, RequestVerdict, request-verdict}
 use Rattle.joint.specs.Joint.{InRange}
 
-module _ (f : List ℕ) (q : Request) (t : StepLists) (c : Accepted f) (o : oneLength t ≡ true) (m : q .minute ≤ 4294967295) where
+module _ (f : Source) (q : Request) (t : StepLists) (c : Accepted f) (o : oneLength t ≡ true) (m : q .minute ≤ 4294967295) where
   Given : ℕ → Type 0
   Given n = _≡_ {A = Outcome ℕ} (first (asking f q t) 0) (refused n 0)
 

@@ -4,8 +4,8 @@ use mathlib.Core.Logic.{_↔_}
 use mathlib.Core.Bool.{true}
 use lib.ListN.{length}
 use Rattle.file.specs.Refusals.{done, refused}
+use Rattle.withdrawals.specs.Source.{Source}
 use Prim.Native.Nat.{ℕ}
-use mathlib.Core.List.{List}
 use Rattle.asking.specs.Asking.{Request, StepLists, size, oneLength}
 use Rattle.completing.specs.Completing as Completing
 use Rattle.completing.specs.Completing.{Lent, completing}
@@ -24,7 +24,7 @@ stepsOf (A.Proof steps level) = steps
 stepsOf (A.Refused n p) = 0
 
 -- where the table was completed with count memberships, the request is in range and the step lists have completing's length
-pub record AsDemanded (f : List ℕ) (q : Request) (after : Lent) (t′ : StepLists) (r : Replies) (count : ℕ) : Type 0 where
+pub record AsDemanded (f : Source) (q : Request) (after : Lent) (t′ : StepLists) (r : Replies) (count : ℕ) : Type 0 where
   -- the minute stands in the written validity exactly when some proof exists
   pub validity : InWrittenValidity f after count q ↔ SomeProof f q
   -- if one exists, one was handed out, and the checker answered its level
@@ -32,7 +32,7 @@ pub record AsDemanded (f : List ℕ) (q : Request) (after : Lent) (t′ : StepLi
   -- 13 exactly when none exists
   pub none : Querying.saysAnswer (r .answer) ≡ refused 13 0 ↔ ¬ SomeProof f q
 
-pub record Together (f : List ℕ) (q : Request) (before after : Lent) (t t′ : StepLists) (r : Replies) : Type 0 where
+pub record Together (f : Source) (q : Request) (before after : Lent) (t t′ : StepLists) (r : Replies) : Type 0 where
   pub completed : Completing.tableEnding (Completing.saysCompleted (r .completed)) (after .roles) (after .sets) (after .spans) ≡ completing f before
   pub queried : Queried f q t (Querying.saysAnswer (r .answer)) t′
   pub checked : Checking.saysChecked (r .checked) ≡ checking f q t′ (stepsOf (r .answer))

@@ -1,5 +1,5 @@
 -- Demand 3 (document 01): one claim over completing, querying and checking together.
--- `completing`, `Queried` and `checking` are what the contracts of the three calls say of their replies and lists. One file f stands in all three.
+-- `completing`, `Queried` and `checking` are what the contracts of the three calls say of their replies and lists. One file with one withdrawal list, the source f, stands in all three.
 use mathlib.Core.Path.{_≡_}
 use mathlib.Core.Logic.{_↔_}
 use mathlib.Core.Bool.{true}
@@ -11,7 +11,7 @@ use Rattle.meaning.specs.Lists.{below}
 use Rattle.meaning.specs.Table.{Row, ends, written}
 use Rattle.meaning.specs.Proofs.{Step, Proof, Provable}
 use Rattle.file.specs.Refusals.{Outcome, done, refused}
-use Rattle.file.specs.Format.{credentials}
+use Rattle.withdrawals.specs.Source.{Source, credentials}
 use Rattle.asking.specs.Asking.{Request, StepLists, stepIn, stepsIn, size, oneLength, within}
 use Rattle.derivation.specs.HandedOut.{HandedOut}
 use Rattle.completing.specs.Completing.{Lent, completing}
@@ -25,21 +25,21 @@ rowsIn t count = map (λ i. record { role = getD (t .roles) i 0; set = getD (t .
 
 -- The minute stands in the membership's written validity: of these entries take the one with its role and set, and of that one the minutes of
 -- every span whose bit is set.
-abbrev pub InWrittenValidity : List ℕ → Lent → ℕ → Request → Type 0
+abbrev pub InWrittenValidity : Source → Lent → ℕ → Request → Type 0
 InWrittenValidity f t count q = T (written (ends (credentials f)) (rowsIn t count) (q .role) (q .set) (q .minute))
 
 -- some proof of the membership exists, of any length, from credentials valid at the minute
-abbrev pub SomeProof : List ℕ → Request → Type 0
+abbrev pub SomeProof : Source → Request → Type 0
 SomeProof f q = Provable (credentials f) (q .minute) (q .role) (q .set)
 
 -- a role and a non-empty set within the file's numbers, and a minute
-pub record InRange (f : List ℕ) (q : Request) : Type 0 where
+pub record InRange (f : Source) (q : Request) : Type 0 where
   pub numbers : within f (q .role) (q .set) ≡ true
   pub some : q .set ≡ 0 → ⊥
   pub minute : q .minute ≤ 4294967294
 
 -- A proof was handed out: t are the lists as querying left them.
-pub record Given (f : List ℕ) (q : Request) (reply : Outcome Counts) (t : StepLists) : Type 0 where
+pub record Given (f : Source) (q : Request) (reply : Outcome Counts) (t : StepLists) : Type 0 where
   pub counts : Counts
   -- the reply is a step count and a level, and the lists hold so many steps from entry 0 on, and zeros after them
   pub replied : reply ≡ done counts
@@ -53,23 +53,23 @@ pub record Given (f : List ℕ) (q : Request) (reply : Outcome Counts) (t : Step
   pub least : (k : ℕ) (ss : List Step) → Proof (credentials f) (q .minute) (q .role) (q .set) k ss → counts .level ≤ k
 
 -- after a query that replied and left the lists t′
-pub record AfterQuery (f : List ℕ) (q : Request) (reply : Outcome Counts) (t′ : StepLists) : Type 0 where
+pub record AfterQuery (f : Source) (q : Request) (reply : Outcome Counts) (t′ : StepLists) : Type 0 where
   -- if a proof exists, one was handed out
   pub given : SomeProof f q → Given f q reply t′
   -- 13 was given exactly when none exists
   pub none : reply ≡ refused 13 0 ↔ ¬ SomeProof f q
 
 -- of one completed table, whose lists completing left as `after`, and one request
-pub record JointClaim (f : List ℕ) (after : Lent) (L count : ℕ) (q : Request) : Type 0 where
+pub record JointClaim (f : Source) (after : Lent) (L count : ℕ) (q : Request) : Type 0 where
   -- the minute stands in the membership's written validity exactly when some proof exists
   pub validity : InWrittenValidity f after count q ↔ SomeProof f q
-  -- and a query of the same file with step lists of the same length L ends as `AfterQuery` says
+  -- and a query of the same file and list with step lists of the same length L ends as `AfterQuery` says
   pub query : (t t′ : StepLists) (reply : Outcome Counts) → oneLength t ≡ true → size t ≡ L → Queried f q t reply t′ → AfterQuery f q reply t′
 
--- for every file whose table was completed, with lists of length L, and every request in range
+-- for every file and withdrawal list whose table was completed, with lists of length L, and every request in range
 abbrev pub Demand3 : Type 0
 Demand3 =
-    (f : List ℕ) (before after : Lent) (count : ℕ)
+    (f : Source) (before after : Lent) (count : ℕ)
     → Completing.tableEnding (done count) (after .roles) (after .sets) (after .spans) ≡ completing f before
     → (q : Request) → InRange f q
     → JointClaim f after (length (before .roles)) count q

@@ -1,11 +1,11 @@
 -- The three calls for C, made one after the other, meet demand 3 on bytes.
 use mathlib.Core.Path.{_≡_, ap, _∙_}
-use mathlib.Core.List.{List}
 use Prim.Native.Nat.{ℕ, _%_, _<_}
 use native.Mathlib.Omega.{arith}
 use borrow.Author.Tests.{lt-ltb}
 use lib.ListN.{length}
 use Rattle.meaning.specs.Lists.{if}
+use Rattle.withdrawals.specs.Source.{Source}
 use Rattle.asking.specs.Asking.{Request, StepLists}
 use Rattle.completing.specs.Completing.{Lent}
 use Rattle.joint.specs.Joint.{InRange}
@@ -20,12 +20,12 @@ use Rattle.joint_bytes.specs.declared.Replies.{Replies}
 use Rattle.joint_bytes.specs.Calls.{stepsOf, AsDemandedBytes, TogetherBytes}
 
 -- the step count of a proof that was handed out
-steps-given : {f : List ℕ} {q : Request} {r : ℕ} {b : StepLists} (g : GivenBytes f q r b) → stepsOf r ≡ g .steps
+steps-given : {f : Source} {q : Request} {r : ℕ} {b : StepLists} (g : GivenBytes f q r b) → stepsOf r ≡ g .steps
 steps-given {r = r} g =
     let e : r % 65536 ≡ g .steps = omega (arith, g .replied, g .apart .0) in
     ap (λ c. if c (r % 65536) 0) (lt-ltb r 4294967296 (g .apart .1)) ∙ e
 
-pub together : {f : List ℕ} {q : Request} {before after : Lent} {b b′ : StepLists} {r : Replies} {steps : ℕ}
+pub together : {f : Source} {q : Request} {before after : Lent} {b b′ : StepLists} {r : Replies} {steps : ℕ}
     → (r .completed ≡ word (λ n. n) (completeBytes f before .reply)) × (after ≡ completeBytes f before .lists)
     → QueriedBytes f q b (r .queried) b′ → steps ≡ stepsOf (r .queried) → r .checked ≡ word (λ n. n) (checkReply f q b′ steps)
     → TogetherBytes f q before after b b′ r

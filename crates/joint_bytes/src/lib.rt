@@ -2,6 +2,7 @@
 ghost use mathlib.Core.Path.{_≡_};
 ghost use Rattle.asking.specs.Asking.{request, stepLists};
 ghost use Rattle.completing.specs.Completing.{lent};
+ghost use Rattle.withdrawals.specs.Source.{_without_};
 ghost use Rattle.joint_bytes.specs.Calls.{TogetherBytes, stepsOf};
 
 // What the three calls replied.
@@ -14,6 +15,7 @@ pub struct Replies {
 // Completes the table, queries the membership, and checks the proof in the bytes as querying left them.
 pub fn ask(
     file: &[u8],
+    withdrawals: &[u8],
     roles: &mut [u8],
     sets: &mut [u8],
     spans: &mut [u8],
@@ -25,13 +27,24 @@ pub fn ask(
     second: &mut [u8],
     results: &mut [u8],
 ) -> Replies
-    ensures { λ r. ⌜ TogetherBytes (now (file .entry)) (request role set minute) (lent (now (roles .entry)) (now (sets .entry)) (now (spans .entry))) (lent (now (roles .exit)) (now (sets .exit)) (now (spans .exit))) (stepLists (now (credential .entry)) (now (first .entry)) (now (second .entry)) (now (results .entry))) (stepLists (now (credential .exit)) (now (first .exit)) (now (second .exit)) (now (results .exit))) r ⌝ }
+    ensures { λ r. ⌜ TogetherBytes (now (file .entry) without now (withdrawals .entry)) (request role set minute) (lent (now (roles .entry)) (now (sets .entry)) (now (spans .entry))) (lent (now (roles .exit)) (now (sets .exit)) (now (spans .exit))) (stepLists (now (credential .entry)) (now (first .entry)) (now (second .entry)) (now (results .entry))) (stepLists (now (credential .exit)) (now (first .exit)) (now (second .exit)) (now (results .exit))) r ⌝ }
 {
-    let completed = rtt::rtt_complete(file, roles, sets, spans);
-    let queried = rtt::rtt_query(file, role, set, minute, credential, first, second, results);
+    let completed = rtt::rtt_complete(file, withdrawals, roles, sets, spans);
+    let queried = rtt::rtt_query(
+        file,
+        withdrawals,
+        role,
+        set,
+        minute,
+        credential,
+        first,
+        second,
+        results,
+    );
     let steps = steps_of(queried);
     let checked = rtt::rtt_check(
         file,
+        withdrawals,
         role,
         set,
         minute,

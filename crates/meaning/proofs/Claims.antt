@@ -14,6 +14,7 @@ use Rattle.meaning.specs.Periods.{Validity, contains, CWP, Maximal}
 use Rattle.meaning.specs.Members.{member, members, leastLevel, In, Before}
 use Rattle.meaning.specs.Proofs.{Step, Proof, Provable}
 use Rattle.meaning.specs.Table.{ends, inSpan, table, inSpans, written, intervals, RowsAscending, Apart, bit, Row, spanCount}
+use Rattle.meaning.specs.Within.{Within}
 use Rattle.meaning.specs.Cases.{Claim, Holds, cases}
 use Rattle.meaning.proofs.Derivations as Derivations
 use Rattle.meaning.proofs.Fixpoint as Fixpoint
@@ -26,6 +27,7 @@ use Rattle.meaning.proofs.Written as Written
 use Rattle.meaning.proofs.Intervals as Intervals
 use Rattle.meaning.proofs.Validities as Validities
 use Rattle.meaning.proofs.Maximal as Maxima
+use Rattle.meaning.proofs.Within as Shorter
 use Rattle.meaning.proofs.Cases as Cases
 
 module _ (cs : List Credential) where
@@ -131,6 +133,20 @@ module _ (cs : List Credential) where
 
   pub intervals-apart : (spans : ℕ) → Apart (intervals (ends cs) spans)
   intervals-apart spans = Intervals.intervals-apart (ends cs) spans (Spans.ends-rising cs)
+
+-- Where periods lie within others, nothing is gained: a proof over them is a proof over the others, no membership has a minute more in the table, and no least
+-- level is lower.
+module _ (cs ds : List Credential) (w : Within cs ds) where
+  pub proofs-within : {m Ar X k : ℕ} {ss : List Step} → Proof cs m Ar X k ss → Proof ds m Ar X k ss
+  proofs-within = Shorter.proof-kept cs ds w
+
+  module _ (f : FitsAll cs) (g : FitsAll ds) where
+    pub minutes-within : (m Ar X : ℕ) → T (written (ends cs) (table cs) Ar X m) → T (written (ends ds) (table ds) Ar X m)
+    minutes-within m Ar X t =
+        table-exact ds g m Ar X .1 (proofs-and-rules ds m .0 (Shorter.provable-kept cs ds w (proofs-and-rules cs m .1 (table-exact cs f m Ar X .0 t))))
+
+    pub levels-within : {m Ar X : ℕ} → Provable cs m Ar X → leastLevel ds m (member Ar X) ≤ leastLevel cs m (member Ar X)
+    levels-within {m} p = no-lower-proof ds g m (proofs-within (least-proof cs f m p .1))
 
 -- Document 01's cases K1 to K11, as document 02's request One has them, and those added to them, hold.
 pub cases-hold : (c : Claim) → Mem c cases → Holds c

@@ -15,5 +15,6 @@ pub mod Rows
 pub mod Written
 pub mod Intervals
 pub mod Maximal
+pub mod Within
 pub mod Cases
 pub mod Claims

@@ -6,4 +6,5 @@ pub mod Periods
 pub mod Members
 pub mod Proofs
 pub mod Table
+pub mod Within
 pub mod Cases

@@ -11,7 +11,8 @@ fn print_interval(role: u32, set: u32, from: u32, to: u32) -> bool {
 }
 
 fn print_membership(file: &[u8], role: u32, set: u32, spans: u64) -> bool {
-    let v = ends::intervals_of(file, spans);
+    let none = withdrawals::none();
+    let v = ends::intervals_of(file, &none, spans);
     let list = v.intervals;
     let count = v.count as usize;
     let mut i = 0;
@@ -51,7 +52,8 @@ fn print_members(file: &[u8]) {
     let mut roles = console::numbers32();
     let mut sets = console::numbers32();
     let mut spans = console::numbers64();
-    let answer = completing::complete(file, &mut roles, &mut sets, &mut spans);
+    let none = withdrawals::none();
+    let answer = completing::complete(file, &none, &mut roles, &mut sets, &mut spans);
     match answer {
         Completed::Memberships(count) => {
             if console::print_number(count) {

@@ -1,5 +1,6 @@
 mod Bytes
-mod Words
+pub mod Words
 mod Storing
 mod Deciding
 pub mod Policies
+mod Periods

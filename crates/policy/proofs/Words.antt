@@ -37,10 +37,10 @@ module _ (x y : ℕ) (h : y < 1024) where
   second-back = omega arith
 
 module _ (x y : ℕ) (h : y < 4294967296) where
-  from-back : periodNumber x y / 4294967296 ≡ x
+  pub from-back : periodNumber x y / 4294967296 ≡ x
   from-back = omega arith
 
-  until-back : periodNumber x y % 4294967296 ≡ y
+  pub until-back : periodNumber x y % 4294967296 ≡ y
   until-back = omega arith
 
 -- what a kind makes of the number of its body
@@ -98,7 +98,7 @@ module _ (f p : List ℕ) (i : ℕ) (s : Small f i) (w : Worded f p i) where
       (body-back _ _ _ _ _ _ (s .second) _ (s .kind) (λ two. s .name two .0))
 
 -- functions that agree below n
-map-same : {A : Type 0} (g h : ℕ → A) (n i : ℕ) → ((j : ℕ) → j < i + n → g j ≡ h j) → map g (upFrom i n) ≡ map h (upFrom i n)
+pub map-same : {A : Type 0} (g h : ℕ → A) (n i : ℕ) → ((j : ℕ) → j < i + n → g j ≡ h j) → map g (upFrom i n) ≡ map h (upFrom i n)
 map-same g h zero i e = refl
 map-same g h (suc n) i e = ap₂ _∷_ (e i (omega arith)) (map-same g h n (suc i) (λ j l. e j (omega arith)))
 

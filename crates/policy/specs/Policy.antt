@@ -70,6 +70,12 @@ pub record Decodes (f p : List ℕ) (s : Sizes) : Type 0 where
   pub names : s .number ≡ 0 → s .names ≡ R f
   pub policy : s .number ≡ 0 → PolicyOf f p (s .credentials)
 
+-- p with the period v at position i
+pub record PeriodPut (p p′ : List ℕ) (i : ℕ) (v : D.Period) : Type 0 where
+  pub here : credentialOf p′ i ≡ credentialOf p i .statement during record { from = v .from; until = v .until }
+  pub others : (j : ℕ) → ¬ (j ≡ i) → credentialOf p′ j ≡ credentialOf p j
+  pub words : (j : ℕ) → getD p′ (2 * j) 0 ≡ getD p (2 * j) 0
+
 -- what the readers of one entry answer
 abbrev pub statementIn : List ℕ → ℕ → Statement
 statementIn p i =

@@ -1,12 +1,12 @@
 // A file that passes 1 to 7 and 17, decoded once: for each credential two numbers, its statement and its period.
 ghost use mathlib.Core.Path.{_≡_};
-ghost use Prim.Native.Nat.{_+_, _<_, _≤_};
-ghost use lib.ListN.{length};
+ghost use Prim.Native.Nat.{_+_, _*_, _<_, _≤_};
+ghost use lib.ListN.{length, set};
 ghost use Rattle.meaning.specs.Credentials.{_·_, covers};
 ghost use Rattle.file.specs.Format.{N, byte, statementAt, field};
 ghost use Rattle.file.specs.Values.{Headed};
 ghost use Rattle.serials.specs.Serials.{Greatest};
-ghost use Rattle.policy.specs.Policy.{credentialOf, statementIn, periodIn, Decodes};
+ghost use Rattle.policy.specs.Policy.{credentialOf, statementIn, periodIn, PeriodPut, Decodes};
 ghost use Rattle.policy.specs.Steps.{bodyAt, wordIn, periodNumber, stored, OneDecoded, AllDecoded};
 use file::Entity;
 use file::Head;
@@ -89,6 +89,15 @@ pub fn period_at(policy: &[u64; 512], i: usize) -> Period
     }
 }
 
+// Puts a period at position i.
+pub fn put_period(policy: &mut [u64; 512], i: usize, v: Period)
+    requires { ⌜ i < 256 ⌝ }
+    ensures { λ _. ⌜ PeriodPut (now (policy .entry)) (now (policy .exit)) i v ⌝ }
+{
+    let period = period_word(v);
+    put_number(policy, i, period);
+}
+
 // Whether the credential at position i is valid at the minute.
 pub fn valid_at(policy: &[u64; 512], i: usize, minute: u32) -> bool
     requires { ⌜ i < 256 ⌝ }
@@ -155,6 +164,14 @@ fn put(policy: &mut [u64], i: usize, statement: u64, period: u64)
     ensures { λ _. ⌜ now (policy .exit) ≡ stored (now (policy .entry)) i statement period ⌝ }
 {
     policy[2 * i] = statement;
+    policy[2 * i + 1] = period;
+}
+
+// Puts the number of a period at position i.
+fn put_number(policy: &mut [u64], i: usize, period: u64)
+    requires { ⌜ (length (now policy) ≡ 512) × (i < 256) ⌝ }
+    ensures { λ _. ⌜ now (policy .exit) ≡ set (now (policy .entry)) (2 * i + 1) period ⌝ }
+{
     policy[2 * i + 1] = period;
 }
 

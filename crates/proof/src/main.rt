@@ -1,10 +1,13 @@
 // Takes ISSUER NAME SET MINUTE and a credentials file on standard input, and prints a proof that the role has the set as a member at the
 // minute: step count and level, then each step on a line; or `refused`, number, place, with what that means on standard error. The set is
-// written as {1,3} or as its number.
+// written as {1,3} or as its number. A fifth argument names a file with a withdrawal list; without it nothing is withdrawn.
 ghost use mathlib.Core.Path.{_≡_};
 ghost use mathlib.Core.Bool.{cond, _&&_};
 ghost use Prim.Native.Nat.{_+_, _*_};
 ghost use lib.Dec.{ltb};
+ghost use lib.ListN.{length};
+ghost use Rattle.io.specs.Counts.{Counts};
+use console::Input;
 use file::Entity;
 use file::Found;
 use file::RoleName;
@@ -63,10 +66,15 @@ fn print_steps(
     }
 }
 
-// Says to standard error what a refusal of a query means: 1 to 8 and 17 are the file's, 10 to 13 the request's; 9 is not given here.
-fn explain(file: &[u8], q: Query, number: u32, place: u32) {
+// Says to standard error what a refusal of a query means: 1 to 8 and 17 are the file's, 20 and 21 the withdrawal list's, 10 to 13 the request's; 9 is not
+// given here.
+fn explain(file: &[u8], list: &[u8], q: Query, number: u32, place: u32) {
     if (number < 10) | (number == 17) {
         console::explain(file, number, place);
+        return;
+    }
+    if 20 <= number {
+        explain_list(file, list, number);
         return;
     }
     let mut line = [0u8; 256];
@@ -82,13 +90,20 @@ fn explain(file: &[u8], q: Query, number: u32, place: u32) {
     console::write_sentence(&line, n);
 }
 
-fn print_proof(file: &[u8], q: Query) {
+fn explain_list(file: &[u8], list: &[u8], number: u32) {
+    let mut line = [0u8; 256];
+    let n = list_sentences::list_line(&mut line, file, list, number);
+    console::write_sentence(&line, n);
+}
+
+fn print_proof(file: &[u8], list: &[u8], q: Query) {
     let mut credential = console::numbers32();
     let mut first = console::numbers32();
     let mut second = console::numbers32();
     let mut sets = console::numbers32();
     let answer = querying::query(
         file,
+        list,
         role_asked(q.issuer, q.name),
         q.set,
         q.minute,
@@ -105,7 +120,7 @@ fn print_proof(file: &[u8], q: Query) {
         }
         Answer::Refused { number, place } => {
             console::print_refusal(number, place);
-            explain(file, q, number, place);
+            explain(file, list, q, number, place);
         }
     }
 }
@@ -140,7 +155,8 @@ fn set_argument(i: usize) -> Parsed {
 }
 
 fn asked() -> Request {
-    if os::arg_count() != 5 {
+    let count = os::arg_count();
+    if (count != 5) & (count != 6) {
         return Request::Unclear;
     }
     let Parsed::Number(issuer) = argument(1) else {
@@ -170,14 +186,49 @@ fn answer(q: Query) {
         return;
     }
     let n = input.count;
-    print_proof(&buffer[..n], q);
+    if os::arg_count() == 5 {
+        let none = withdrawals::none();
+        print_proof(&buffer[..n], &none, q);
+        return;
+    }
+    let mut list = list_room();
+    let given = read_list(&mut list);
+    if given.failed {
+        return;
+    }
+    let k = given.count;
+    print_proof(&buffer[..n], &list[..k], q);
+}
+
+// One byte more than the longest list, so that a longer one is refused as such.
+fn list_room() -> [u8; 2051]
+    ensures { λ r. ⌜ 2051 ≡ length r ⌝ }
+{
+    [0; 2051]
+}
+
+// Reads the file that the fifth argument names.
+fn read_list(list: &mut [u8]) -> Input
+    ensures { λ r. ⌜ Counts (r .count) (now (list .exit)) ⌝ }
+{
+    let mut path = [0u8; 4096];
+    let n = os::arg(5, &mut path);
+    let fd = os::open_read(&path[..n]);
+    if fd < 0 {
+        os::fail(b"the withdrawal list cannot be opened");
+        return Input {
+            count: 0,
+            failed: true,
+        };
+    }
+    console::read_from(fd, list, b"the withdrawal list cannot be read")
 }
 
 fn main() {
     match asked() {
         Request::Query(q) => answer(q),
         Request::Unclear => console::usage(
-            b"usage: rtt-proof ISSUER NAME SET MINUTE < FILE\nNumbers are decimal, up to 4294967295. SET is a set of entities, as '{1,3}', or its number, which has bit e for entity e.\nFILE is a credentials file. Prints a proof that the set holds the role at the minute.\n",
+            b"usage: rtt-proof ISSUER NAME SET MINUTE [WITHDRAWALS] < FILE\nNumbers are decimal, up to 4294967295. SET is a set of entities, as '{1,3}', or its number, which has bit e for entity e.\nFILE is a credentials file, WITHDRAWALS a file with a withdrawal list; without it nothing is withdrawn. Prints a proof that the set holds the role at the minute.\n",
         ),
     }
 }

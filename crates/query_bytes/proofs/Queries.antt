@@ -10,8 +10,8 @@ use Rattle.meaning.specs.Lists.{if}
 use Rattle.meaning.specs.Members.{members}
 use Rattle.meaning.specs.Proofs.{Step}
 use Rattle.file.specs.Refusals.{Outcome, done, first, _when_, left}
-use Rattle.file.specs.Format.{credentials}
-use Rattle.file.specs.Reading.{between, reading}
+use Rattle.file.specs.Reading.{between}
+use Rattle.withdrawals.specs.Source.{Source, credentials, reading}
 use Rattle.asking.specs.Asking.{Request, StepLists, stepLists, within, asking}
 use Rattle.derivation.specs.HandedOut.{words}
 use Rattle.querying.specs.Querying.{Counts, counts, minuteFullRow, noneRow, levelFor, replyWith, QueryEnding, querying, Queried}
@@ -43,7 +43,7 @@ module _ (b : StepLists) where
 done-writes : {A : Type 0} {a : A} {o : Outcome A} → o ≡ done a → writes o ≡ false → ⊥
 done-writes e w = subst⁻¹ T (sym w ∙ ap writes e) tt
 
-module _ (f : List ℕ) (q : Request) (b : StepLists) (e : fit b ≡ false) where
+module _ (f : Source) (q : Request) (b : StepLists) (e : fit b ≡ false) where
   reply-unfit : (ss : List Step) → queryReply f q b ss ≡ notWhole f (counts 0 0)
   unfolding queryReply replyWith
   reply-unfit ss = steps-unfit b f q e (minuteFullRow f q (length (entries 4 (b .credential))) ∷ noneRow f q ∷ []) (counts (length ss) (levelFor f q)) (counts 0 0)
@@ -69,7 +69,7 @@ pub record Long (t : StepLists) (n : ℕ) : Type 0 where
   pub second : length (t .second) ≡ n
   pub sets : length (t .sets) ≡ n
 
-module _ (f : List ℕ) (q : Request) (b t : StepLists) (n : ℕ) (z : StepSizes b n) (long : Long t n) where
+module _ (f : Source) (q : Request) (b t : StepLists) (n : ℕ) (z : StepSizes b n) (long : Long t n) where
   as-many : (bs l : List ℕ) → length bs ≡ 4 * n → length l ≡ n → length (entries 4 bs) ≡ length l
   as-many bs l e h = length-entries 4 bs ∙ omega arith
 
@@ -112,7 +112,7 @@ module _ (f : List ℕ) (q : Request) (b t : StepLists) (n : ℕ) (z : StepSizes
 abbrev taken : ℕ → StepLists → StepLists
 taken n x = stepLists (take n (x .credential)) (take n (x .first)) (take n (x .second)) (take n (x .sets))
 
-module _ (f : List ℕ) (q : Request) (b : StepLists) (n : ℕ) (z : StepSizes b n) (x : StepLists) (room : Long x 1024) where
+module _ (f : Source) (q : Request) (b : StepLists) (n : ℕ) (z : StepSizes b n) (x : StepLists) (room : Long x 1024) where
   long : Long (taken n x) n
   long = record {
     credential = room-part n (x .credential) (room .credential) (z .few);

@@ -6,6 +6,7 @@ ghost use Rattle.querying.specs.Querying.{saysAnswer};
 ghost use Rattle.replies.specs.Interface.{word};
 ghost use Rattle.replies.specs.Lengths.{StepSizes};
 ghost use Rattle.replies.specs.Replies.{writes};
+ghost use Rattle.withdrawals.specs.Source.{_without_};
 ghost use Rattle.query_bytes.specs.Interface.{stepsAndLevel, QueriedBytes};
 use querying::Answer;
 
@@ -16,13 +17,14 @@ pub fn query(
     second: &mut [u8],
     sets: &mut [u8],
     file: &[u8],
+    withdrawals: &[u8],
     role: u32,
     set: u32,
     minute: u32,
     n: usize,
 ) -> u64
     requires { ⌜ StepSizes (stepLists (now credential) (now first) (now second) (now sets)) n ⌝ }
-    ensures { λ r. ⌜ QueriedBytes (now (file .entry)) (request role set minute) (stepLists (now (credential .entry)) (now (first .entry)) (now (second .entry)) (now (sets .entry))) r (stepLists (now (credential .exit)) (now (first .exit)) (now (second .exit)) (now (sets .exit))) ⌝ }
+    ensures { λ r. ⌜ QueriedBytes (now (file .entry) without now (withdrawals .entry)) (request role set minute) (stepLists (now (credential .entry)) (now (first .entry)) (now (second .entry)) (now (sets .entry))) r (stepLists (now (credential .exit)) (now (first .exit)) (now (second .exit)) (now (sets .exit))) ⌝ }
 {
     let mut credential_room = replies::room32();
     let mut first_room = replies::room32();
@@ -30,6 +32,7 @@ pub fn query(
     let mut set_room = replies::room32();
     let answer = querying::query(
         file,
+        withdrawals,
         role,
         set,
         minute,

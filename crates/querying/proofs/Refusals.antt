@@ -12,9 +12,10 @@ use Rattle.meaning.specs.Proofs.{Step, Provable}
 use Rattle.meaning.proofs.OrderLaws.{has-in, has-out}
 use Rattle.meaning.proofs.Claims.{members-exact, proofs-and-rules}
 use Rattle.file.specs.Refusals.{RefusalRow, Outcome, done, refused, first}
-use Rattle.file.specs.Format.{credentials}
-use Rattle.file.proofs.Claims.{within-format}
-use Rattle.file.proofs.Refusals.{pass, give, not-of-file, by-test, less}
+use Rattle.file.proofs.Refusals.{pass, give, by-test, less}
+use Rattle.withdrawals.specs.Source.{Source, credentials}
+use Rattle.withdrawals.proofs.Claims.{within-format}
+use Rattle.withdrawals.proofs.Refusals.{not-of-source}
 use Rattle.asking.specs.Asking.{Request, StepLists, size, Askable}
 use Rattle.asking.specs.Conditions.{RefusedRequest, file, lengths, numbers, minute}
 use Rattle.asking.proofs.Asked.{askable-passes}
@@ -23,13 +24,13 @@ use Rattle.querying.specs.Querying.{Counts, counts, minuteFullRow, noneR
 use Rattle.querying.specs.Conditions.{membersFor, RefusedQuery, request, full, none}
 
 -- a request's refusals are neither 10 nor 13, which the query itself gives
-not-10-or-13 : {f : List ℕ} {q : Request} {t : StepLists} {n p : ℕ} → RefusedRequest f q t n p → (n ≡ 10 → ⊥) × (n ≡ 13 → ⊥)
-not-10-or-13 {f} (file r) = (not-of-file f r 10 tt, not-of-file f r 13 tt)
+not-10-or-13 : {f : Source} {q : Request} {t : StepLists} {n p : ℕ} → RefusedRequest f q t n p → (n ≡ 10 → ⊥) × (n ≡ 13 → ⊥)
+not-10-or-13 {f} (file r) = (not-of-source f r 10 tt, not-of-source f r 13 tt)
 not-10-or-13 (lengths c h) = ((λ e. omega arith), λ e. omega arith)
 not-10-or-13 (numbers c o h) = ((λ e. omega arith), λ e. omega arith)
 not-10-or-13 (minute c o n m) = ((λ e. omega arith), λ e. omega arith)
 
-module _ (f : List ℕ) (q : Request) (t : StepLists) where
+module _ (f : Source) (q : Request) (t : StepLists) where
   abbrev Proved : Type 0
   Proved = Provable (credentials f) (q .minute) (q .role) (q .set)
 

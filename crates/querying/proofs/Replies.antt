@@ -15,7 +15,7 @@ use Rattle.meaning.specs.Proofs.{Step}
 use Rattle.file.specs.declared.Refusal.{Refusal}
 use Rattle.file.specs.Values.{firstRefusal}
 use Rattle.file.specs.Refusals.{Outcome, done, refused, left}
-use Rattle.file.specs.Format.{credentials}
+use Rattle.withdrawals.specs.Source.{Source, credentials}
 use Rattle.store.specs.Entries.{roleIn, setIn}
 use Rattle.store.specs.Notes.{levelOf}
 use Rattle.store.proofs.Keys.{role-of-key, set-of-key}
@@ -78,7 +78,7 @@ rows-refuse false false level number e = inr cc
 
 -- ---- the whole call
 
-module _ (f : List ℕ) (q : Request) (t : StepLists) where
+module _ (f : Source) (q : Request) (t : StepLists) where
   abbrev leftBy : Outcome Counts → List Step → StepLists
   leftBy o ss =
       stepLists (left o (t .credential) (words (λ s. s .credential) (size t) ss)) (left o (t .first) (words (λ s. s .first) (size t) ss))

@@ -10,6 +10,7 @@ use Rattle.meaning.specs.Credentials.{Credential, credentialAt}
 use Rattle.meaning.specs.Proofs.{citesFirst, citesSecond}
 use Rattle.meaning.proofs.Tests.{and-left, and-right}
 use Rattle.file.specs.Reading.{between}
+use Rattle.withdrawals.specs.Source.{Source}
 use Rattle.asking.specs.Asking.{Request, StepLists, size, oneLength, Askable}
 use Rattle.asking.proofs.Asked.{within-bits}
 use Rattle.store.specs.Notes.{word}
@@ -58,8 +59,8 @@ citing {cs} {m} {keys} {notes} {n} d i h =
     low false (suc w) e k = absurd (subst⁻¹ T e (lt→ltb 0 (suc w) (omega arith)))
 
 -- a role of a request that is not refused is below 32 × 32
-pub role-below : {f : List ℕ} {q : Request} {t : StepLists} → Askable f q t → q .role < 1024
-role-below {f} {q} {t} a = omega (arith, within-bits f (q .role) (q .set) .0 (a .within) .0, a .accepted .head .limits .entities .1)
+pub role-below : {f : Source} {q : Request} {t : StepLists} → Askable f q t → q .role < 1024
+role-below {f} {q} {t} a = omega (arith, within-bits f (q .role) (q .set) .0 (a .within) .0, a .accepted .readable .head .limits .entities .1)
 
 -- the entry found can be written
 pub writable : {cs : List Credential} {m Ar X L : ℕ} {keys notes : List ℕ} {x k : ℕ} → Shows cs m Ar X L keys notes x k → Writable keys notes x L

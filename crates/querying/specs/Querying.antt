@@ -8,7 +8,7 @@ use lib.ListN.{length}
 use Rattle.meaning.specs.Members.{member, has, members, leastLevel}
 use Rattle.meaning.specs.Proofs.{Step}
 use Rattle.file.specs.Refusals.{RefusalRow, Outcome, done, refused, first, _when_, left}
-use Rattle.file.specs.Format.{credentials}
+use Rattle.withdrawals.specs.Source.{Source, credentials}
 use Rattle.asking.specs.Asking.{Request, StepLists, stepLists, size, asking}
 use Rattle.derivation.specs.HandedOut.{HandedOut, words}
 use Rattle.querying.specs.declared.Answer.{Answer}
@@ -23,19 +23,19 @@ abbrev pub counts : ℕ → ℕ → Counts
 counts steps level = record { steps = steps; level = level }
 
 -- 10: more than L memberships at that minute
-abbrev pub minuteFullRow : List ℕ → Request → ℕ → RefusalRow
+abbrev pub minuteFullRow : Source → Request → ℕ → RefusalRow
 minuteFullRow f q L = 10 when (ltb L (length (members (credentials f) (q .minute))))
 
 -- 13: no proof
-abbrev pub noneRow : List ℕ → Request → RefusalRow
+abbrev pub noneRow : Source → Request → RefusalRow
 noneRow f q = 13 when (not (has (member (q .role) (q .set)) (members (credentials f) (q .minute))))
 
 -- the least level of any proof of the membership at the minute
-abbrev pub levelFor : List ℕ → Request → ℕ
+abbrev pub levelFor : Source → Request → ℕ
 levelFor f q = leastLevel (credentials f) (q .minute) (member (q .role) (q .set))
 
 -- the reply, where ss are the steps handed out
-unfoldable pub replyWith : List ℕ → Request → StepLists → List Step → Outcome Counts
+unfoldable pub replyWith : Source → Request → StepLists → List Step → Outcome Counts
 replyWith f q t ss = first (asking f q t ++ (minuteFullRow f q (size t) ∷ noneRow f q ∷ [])) (counts (length ss) (levelFor f q))
 
 -- how the call ends: its reply, and the lists as it leaves them
@@ -47,7 +47,7 @@ abbrev pub queryEnding : Outcome Counts → StepLists → QueryEnding
 queryEnding reply lists = record { reply = reply; lists = lists }
 
 -- the words of the steps, zeros after the last
-unfoldable pub querying : List ℕ → Request → StepLists → List Step → QueryEnding
+unfoldable pub querying : Source → Request → StepLists → List Step → QueryEnding
 querying f q t ss =
     queryEnding (replyWith f q t ss)
     (stepLists
@@ -57,7 +57,7 @@ querying f q t ss =
     (left (replyWith f q t ss) (t .sets) (words (λ s. s .set) (size t) ss)))
 
 -- What is true of a query for every input. The choice of the steps is the one result that document 01 leaves open.
-pub record Queried (f : List ℕ) (q : Request) (t : StepLists) (reply : Outcome Counts) (t′ : StepLists) : Type 0 where
+pub record Queried (f : Source) (q : Request) (t : StepLists) (reply : Outcome Counts) (t′ : StepLists) : Type 0 where
   pub steps : List Step
   pub ends : queryEnding reply t′ ≡ querying f q t steps
   pub handed : (c : Counts) → reply ≡ done c → HandedOut (credentials f) (q .minute) (q .role) (q .set) (c .level) steps × (length steps ≤ size t)

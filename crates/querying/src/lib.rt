@@ -4,6 +4,7 @@ ghost use Prim.Native.Nat.{_≤_};
 ghost use lib.ListN.{length};
 ghost use Rattle.file.specs.Refusals.{refused};
 ghost use Rattle.asking.specs.Asking.{request, stepLists};
+ghost use Rattle.withdrawals.specs.Source.{_without_};
 ghost use Rattle.querying.specs.Querying.{Queried, saysAnswer};
 ghost use Rattle.querying.specs.Working.{Writable, HandsOut};
 use finding::Found;
@@ -17,6 +18,7 @@ pub enum Answer {
 // A proof of the membership at the minute, written into the four lists.
 pub fn query(
     file: &[u8],
+    withdrawals: &[u8],
     role: u32,
     set: u32,
     minute: u32,
@@ -25,12 +27,13 @@ pub fn query(
     second: &mut [u32],
     sets: &mut [u32],
 ) -> Answer
-    ensures { λ r. ⌜ Queried (now (file .entry)) (request role set minute) (stepLists (now (credential .entry)) (now (first .entry)) (now (second .entry)) (now (sets .entry))) (saysAnswer r) (stepLists (now (credential .exit)) (now (first .exit)) (now (second .exit)) (now (sets .exit))) ⌝ }
+    ensures { λ r. ⌜ Queried (now (file .entry) without now (withdrawals .entry)) (request role set minute) (stepLists (now (credential .entry)) (now (first .entry)) (now (second .entry)) (now (sets .entry))) (saysAnswer r) (stepLists (now (credential .exit)) (now (first .exit)) (now (second .exit)) (now (sets .exit))) ⌝ }
 {
     let mut policy = policy::room();
     let j = asking::judge(
         &mut policy,
         file,
+        withdrawals,
         role,
         set,
         minute,

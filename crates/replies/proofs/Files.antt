@@ -7,20 +7,19 @@ use native.Mathlib.Omega.{arith}
 use borrow.Author.Tests.{ne-eqb}
 use Rattle.meaning.specs.Table.{ends}
 use Rattle.file.specs.Refusals.{RefusalRow, Outcome, done, refused, first, left}
-use Rattle.file.specs.Format.{credentials}
-use Rattle.file.specs.Reading.{reading}
-use Rattle.file.specs.Conditions.{Accepted, Refused}
 use Rattle.file.proofs.First.{after, first-append}
-use Rattle.file.proofs.Refusals.{Verdict, verdict, accepted-read, refused-read, refused-some, not-of-file}
+use Rattle.withdrawals.specs.Source.{Source, credentials, reading}
+use Rattle.withdrawals.specs.Conditions.{Accepted, Refused}
+use Rattle.withdrawals.proofs.Refusals.{refused-some, Verdict, verdict, accepted-read, refused-read, not-of-source}
 use Rattle.ends.specs.declared.Ends.{Ends}
 use Rattle.ends.specs.Ends.{endsOut, endsIn}
 
 -- a file's refusals leave a list as it was
-pub refused-left : {f : List ℕ} {n p : ℕ} → Refused f n p → (before written : List ℕ) → left {A = ℕ} (refused n p) before written ≡ before
-refused-left {f} {n = n} r before written = simp (ne-eqb n 10 (not-of-file f r 10 tt), ne-eqb n 13 (not-of-file f r 13 tt))
+pub refused-left : {f : Source} {n p : ℕ} → Refused f n p → (before written : List ℕ) → left {A = ℕ} (refused n p) before written ≡ before
+refused-left {f} {n = n} r before written = simp (ne-eqb n 10 (not-of-source f r 10 tt), ne-eqb n 13 (not-of-source f r 13 tt))
 
 -- the rows after the file's decide where it is accepted
-module _ {A : Type 0} (f : List ℕ) (more : List RefusalRow) (a : A) where
+module _ {A : Type 0} (f : Source) (more : List RefusalRow) (a : A) where
   abbrev then : Outcome A → Outcome A
   then o = after o (first more a)
 
@@ -32,7 +31,7 @@ module _ {A : Type 0} (f : List ℕ) (more : List RefusalRow) (a : A) where
 
 -- ---- by the file's ends
 
-module _ (f : List ℕ) (e : Ends) (u : e ≡ endsIn f) where
+module _ (f : Source) (e : Ends) (u : e ≡ endsIn f) where
   abbrev all : List ℕ
   all = ends (credentials f)
 

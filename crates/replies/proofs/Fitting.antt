@@ -10,7 +10,8 @@ use lib.ListN.{length}
 use Rattle.meaning.specs.Lists.{if}
 use Rattle.meaning.proofs.Tests.{and-left, and-right}
 use Rattle.file.specs.Refusals.{RefusalRow, first, _when_}
-use Rattle.file.specs.Reading.{between, reading}
+use Rattle.file.specs.Reading.{between}
+use Rattle.withdrawals.specs.Source.{Source, reading}
 use Rattle.asking.specs.Asking.{Request, StepLists, oneLength, within, requestRows, asking}
 use Rattle.codec.proofs.Entries.{length-entries}
 use Rattle.replies.specs.Interface.{notWhole, wholeSteps, stepListsIn}
@@ -26,8 +27,8 @@ steps-whole b n z =
       eq-eqb (length (b .sets) % 4) 0 (omega (arith, z .sets)),
     ) refl
 
--- 9 comes first after the file's refusals
-pub asked-nine : (f : List ℕ) (q : Request) (t : StepLists) → oneLength t ≡ false → {X : Type 0} (more : List RefusalRow) (a b : X)
+-- 9 comes first after the refusals of a file with its withdrawals
+pub asked-nine : (f : Source) (q : Request) (t : StepLists) → oneLength t ≡ false → {X : Type 0} (more : List RefusalRow) (a b : X)
     → first (asking f q t ++ more) a ≡ first (reading f ++ (9 when true ∷ [])) b
 unfolding asking
 asked-nine f q t e {X} more a b =
@@ -76,7 +77,7 @@ module _ (b : StepLists) where
       record { credential = omega arith; first = omega arith; second = omega arith; sets = omega arith; few = few }
 
   -- a reply that has the rows of a request first
-  pub steps-unfit : (f : List ℕ) (q : Request) → fit ≡ false → {X : Type 0} (more : List RefusalRow) (x y : X)
+  pub steps-unfit : (f : Source) (q : Request) → fit ≡ false → {X : Type 0} (more : List RefusalRow) (x y : X)
       → if (wholeSteps b) (first (asking f q (stepListsIn b) ++ more) x) (notWhole f y) ≡ notWhole f y
   steps-unfit f q e {X} more x y = go (wholeSteps b) (sym fit-is ∙ e)
     where

@@ -1,4 +1,4 @@
--- The refusals of a file, then 9.
+-- The refusals of a file with its withdrawals, then 9.
 use mathlib.Core.Path.{_≡_, refl, sym, ap}
 use mathlib.Core.Bool.{Bool, true, false, _||_, not}
 use mathlib.Core.List.{List, [], _∷_, _++_}
@@ -7,8 +7,8 @@ use lib.Dec.{T, eqb, T-not}
 use Rattle.meaning.specs.Lists.{all, each, below}
 use Rattle.meaning.proofs.Tests.{and-left, and-right, is-false}
 use Rattle.file.specs.Refusals.{RefusalRow, Outcome, refused, first, _when_}
-use Rattle.file.specs.Format.{N}
-use Rattle.file.specs.Reading.{headRows, checkRows, credentialsRows, endsRow, reading}
+use Rattle.file.specs.Reading.{headRows, checkRows, credentialsRows}
+use Rattle.withdrawals.specs.Source.{Source, N, listRows, endsRow, reading}
 use Rattle.ends.specs.declared.Ends.{Ends}
 use Rattle.ends.specs.Ends.{endsIn}
 use Rattle.asking.proofs.Asked.{all-append}
@@ -51,18 +51,18 @@ each-keeps : {A : Type 0} (g : A → List RefusalRow) (l : List A) → ((y : A) 
 each-keeps g [] h = tt
 each-keeps g (y ∷ l) h = all-append keeps (g y) (each g l) (h y) (each-keeps g l h)
 
-reading-keeps : (f : List ℕ) → T (all keeps (reading f))
+reading-keeps : (f : Source) → T (all keeps (reading f))
 unfolding reading
 reading-keeps f =
-    all-append keeps (headRows f) (credentialsRows f ++ endsRow f ∷ []) tt
-    (all-append keeps (credentialsRows f) (endsRow f ∷ []) (each-keeps (checkRows f) (below (N f)) (λ i. tt)) tt)
+    all-append keeps (headRows (f .file)) (credentialsRows (f .file) ++ (listRows f ++ endsRow f ∷ [])) tt
+    (all-append keeps (credentialsRows (f .file)) (listRows f ++ endsRow f ∷ []) (each-keeps (checkRows (f .file)) (below (N f)) (λ i. tt)) tt)
 
-pub nine-keeps : {A : Type 0} (f : List ℕ) (a : A) → writes (notWhole f a) ≡ false
+pub nine-keeps : {A : Type 0} (f : Source) (a : A) → writes (notWhole f a) ≡ false
 nine-keeps f a = rows-keep (reading f) a (reading-keeps f)
 
 -- ---- the reply by the file's ends
 
-module _ (f : List ℕ) (e : Ends) (u : e ≡ endsIn f) where
+module _ (f : Source) (e : Ends) (u : e ≡ endsIn f) where
   abbrev nine : List RefusalRow
   nine = 9 when true ∷ []
 

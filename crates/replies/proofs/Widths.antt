@@ -6,10 +6,11 @@ use Prim.Native.Nat.{ℕ, zero, suc, _+_, _-_, _/_, _^_, _≤_, _<_}
 use native.Mathlib.Omega.{arith}
 use lib.ListN.{length, replicate}
 use Rattle.meaning.specs.Table.{ends}
-use Rattle.file.specs.Format.{four, periodAt, fromOf, toOf, credentials}
-use Rattle.file.specs.Conditions.{Accepted}
-use Rattle.file.proofs.Claims.{accepted-ends}
+use Rattle.file.specs.Format.{four, periodAt, fromOf, toOf}
 use Rattle.file.proofs.Refusals.{less}
+use Rattle.withdrawals.specs.Source.{Source, N, credentialIn, credentials}
+use Rattle.withdrawals.specs.Conditions.{Accepted}
+use Rattle.withdrawals.proofs.Ends.{counted-ends, end-early}
 use Rattle.survey.specs.Ends.{padded}
 use Rattle.codec.specs.Bytes.{bytesOf, firstEntries, entries}
 use Rattle.codec.proofs.Entries.{length-bytesOf, first-bytesOf}
@@ -17,21 +18,21 @@ use Rattle.replies.specs.Interface.{Bytes}
 
 -- ---- the ends of a file
 
-module _ (f : List ℕ) (small : Bytes f) where
-  four-low : (i : ℕ) → four f i < 256 ^ 4
+module _ (f : Source) (small : Bytes (f .file)) where
+  four-low : (i : ℕ) → four (f .file) i < 256 ^ 4
   four-low i = omega (arith, small i, small (i + 1), small (i + 2), small (i + 2 + 1))
 
   pub end-low : Accepted f → (x : ℕ) → Mem x (ends (credentials f)) → x < 256 ^ 4
-  end-low a x m = let (i, l, e) = accepted-ends f a x .0 m in go i (a .good i l .period .minute) e
+  end-low a x m = let (i, l, _, e) = counted-ends f (a .readable) x .0 m in go i l (a .readable .good i l .period .minute) e
     where
       -- `to` is not the largest number
-      next-low : (i : ℕ) → ¬ (toOf f i ≡ 4294967295) → (toOf f i < 4294967295) ⊎ (4294967295 ≤ toOf f i) → toOf f i + 1 < 256 ^ 4
+      next-low : (i : ℕ) → ¬ (toOf (f .file) i ≡ 4294967295) → (toOf (f .file) i < 4294967295) ⊎ (4294967295 ≤ toOf (f .file) i) → toOf (f .file) i + 1 < 256 ^ 4
       next-low i n (inl h) = omega arith
-      next-low i n (inr h) = absurd (n (omega (arith, four-low (periodAt f i + 4))))
+      next-low i n (inr h) = absurd (n (omega (arith, four-low (periodAt (f .file) i + 4))))
 
-      go : (i : ℕ) → ¬ (toOf f i ≡ 4294967295) → (x ≡ fromOf f i) ⊎ (x ≡ toOf f i + 1) → x < 256 ^ 4
-      go i n (inl e) = omega (arith, four-low (periodAt f i))
-      go i n (inr e) = omega (arith, next-low i n (less (toOf f i) 4294967295))
+      go : (i : ℕ) → i < N f → ¬ (toOf (f .file) i ≡ 4294967295) → (x ≡ fromOf (f .file) i) ⊎ (x ≡ credentialIn f i .period .until) → x < 256 ^ 4
+      go i l n (inl e) = omega (arith, four-low (periodAt (f .file) i))
+      go i l n (inr e) = omega (arith, e, end-early f (a .readable) i l, next-low i n (less (toOf (f .file) i) 4294967295))
 
 -- ---- 64 places
 

@@ -4,7 +4,7 @@ use mathlib.Core.List.{List, [], _∷_, _++_}
 use Prim.Native.Nat.{ℕ, _+_, _*_, _/_}
 use lib.ListN.{length}
 use Rattle.file.specs.Refusals.{Outcome, done, refused, first, _when_}
-use Rattle.file.specs.Reading.{reading}
+use Rattle.withdrawals.specs.Source.{Source, reading}
 use Rattle.asking.specs.Asking.{StepLists, stepLists}
 use Rattle.codec.specs.Bytes.{entries, whole}
 pub use Rattle.codec.specs.ByteLists.{Bytes}
@@ -15,7 +15,7 @@ word value (done a) = value a
 word value (refused n p) = n * 4294967296 + p
 
 -- 9 also for a length that isn't whole entries
-abbrev pub notWhole : {A : Type 0} → List ℕ → A → Outcome A
+abbrev pub notWhole : {A : Type 0} → Source → A → Outcome A
 notWhole f a = first (reading f ++ 9 when true ∷ []) a
 
 -- L entries

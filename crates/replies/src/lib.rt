@@ -5,6 +5,7 @@ ghost use Prim.Native.Nat.{_+_, _*_};
 ghost use lib.Dec.{eqb};
 ghost use lib.ListN.{length};
 ghost use Rattle.meaning.specs.Lists.{if};
+ghost use Rattle.withdrawals.specs.Source.{_without_};
 ghost use Rattle.replies.specs.Interface.{word, notWhole};
 ghost use Rattle.replies.specs.Lengths.{stepsFit};
 
@@ -15,11 +16,11 @@ pub fn refusal(number: u32, place: u32) -> u64
     number as u64 * 4294967296 + (place as u64)
 }
 
-// The file's refusals, then 9.
-pub fn refuse(file: &[u8]) -> u64
-    ensures { λ r. ⌜ r ≡ word (λ n. n) (notWhole (now (file .entry)) 0) ⌝ }
+// The refusals of the file with its withdrawals, then 9.
+pub fn refuse(file: &[u8], withdrawals: &[u8]) -> u64
+    ensures { λ r. ⌜ r ≡ word (λ n. n) (notWhole (now (file .entry) without now (withdrawals .entry)) 0) ⌝ }
 {
-    let e = ends::ends_of(file);
+    let e = ends::ends_of(file, withdrawals);
     if e.number != 0 {
         return refusal(e.number, e.place);
     }

@@ -9,30 +9,33 @@ ghost use Rattle.check_bytes.specs.Interface.{checkReply};
 ghost use Rattle.ends_bytes.specs.Interface.{endsReply, endsBytes};
 ghost use Rattle.intervals_bytes.specs.Interface.{intervalsReply, intervalsBytes};
 ghost use Rattle.carrying.specs.Carrying.{goingForward, forwardLeft, goingBack, backLeft, saysCarried};
+ghost use Rattle.withdrawals.specs.Source.{_without_};
 use carrying::Carried;
 
 // Completes the table.
 #[no_mangle]
 pub extern "C" fn rtt_complete(
     file: &[u8],
+    withdrawals: &[u8],
     roles: &mut [u8],
     sets: &mut [u8],
     spans: &mut [u8],
 ) -> u64
-    ensures { λ r. ⌜ r ≡ word (λ n. n) (completeBytes (now (file .entry)) (lent (now (roles .entry)) (now (sets .entry)) (now (spans .entry))) .reply) ⌝ }
-    ensures { λ _. ⌜ lent (now (roles .exit)) (now (sets .exit)) (now (spans .exit)) ≡ completeBytes (now (file .entry)) (lent (now (roles .entry)) (now (sets .entry)) (now (spans .entry))) .lists ⌝ }
+    ensures { λ r. ⌜ r ≡ word (λ n. n) (completeBytes (now (file .entry) without now (withdrawals .entry)) (lent (now (roles .entry)) (now (sets .entry)) (now (spans .entry))) .reply) ⌝ }
+    ensures { λ _. ⌜ lent (now (roles .exit)) (now (sets .exit)) (now (spans .exit)) ≡ completeBytes (now (file .entry) without now (withdrawals .entry)) (lent (now (roles .entry)) (now (sets .entry)) (now (spans .entry))) .lists ⌝ }
 {
     if !complete_bytes::table_fits(roles.len(), sets.len(), spans.len()) {
-        return replies::refuse(file);
+        return replies::refuse(file, withdrawals);
     }
     let n = roles.len() / 4;
-    complete_bytes::complete(roles, sets, spans, file, n)
+    complete_bytes::complete(roles, sets, spans, file, withdrawals, n)
 }
 
 // Hands out a proof of the membership at the minute.
 #[no_mangle]
 pub extern "C" fn rtt_query(
     file: &[u8],
+    withdrawals: &[u8],
     role: u32,
     set: u32,
     minute: u32,
@@ -41,19 +44,31 @@ pub extern "C" fn rtt_query(
     second: &mut [u8],
     sets: &mut [u8],
 ) -> u64
-    ensures { λ r. ⌜ QueriedBytes (now (file .entry)) (request role set minute) (stepLists (now (credential .entry)) (now (first .entry)) (now (second .entry)) (now (sets .entry))) r (stepLists (now (credential .exit)) (now (first .exit)) (now (second .exit)) (now (sets .exit))) ⌝ }
+    ensures { λ r. ⌜ QueriedBytes (now (file .entry) without now (withdrawals .entry)) (request role set minute) (stepLists (now (credential .entry)) (now (first .entry)) (now (second .entry)) (now (sets .entry))) r (stepLists (now (credential .exit)) (now (first .exit)) (now (second .exit)) (now (sets .exit))) ⌝ }
 {
     if !replies::steps_fit(credential.len(), first.len(), second.len(), sets.len()) {
-        return replies::refuse(file);
+        return replies::refuse(file, withdrawals);
     }
     let n = credential.len() / 4;
-    query_bytes::query(credential, first, second, sets, file, role, set, minute, n)
+    query_bytes::query(
+        credential,
+        first,
+        second,
+        sets,
+        file,
+        withdrawals,
+        role,
+        set,
+        minute,
+        n,
+    )
 }
 
 // Checks the first `steps` steps as a proof of the membership at the minute.
 #[no_mangle]
 pub extern "C" fn rtt_check(
     file: &[u8],
+    withdrawals: &[u8],
     role: u32,
     set: u32,
     minute: u32,
@@ -63,14 +78,15 @@ pub extern "C" fn rtt_check(
     sets: &[u8],
     steps: u64,
 ) -> u64
-    ensures { λ r. ⌜ r ≡ word (λ n. n) (checkReply (now (file .entry)) (request role set minute) (stepLists (now (credential .entry)) (now (first .entry)) (now (second .entry)) (now (sets .entry))) steps) ⌝ }
+    ensures { λ r. ⌜ r ≡ word (λ n. n) (checkReply (now (file .entry) without now (withdrawals .entry)) (request role set minute) (stepLists (now (credential .entry)) (now (first .entry)) (now (second .entry)) (now (sets .entry))) steps) ⌝ }
 {
     if !replies::steps_fit(credential.len(), first.len(), second.len(), sets.len()) {
-        return replies::refuse(file);
+        return replies::refuse(file, withdrawals);
     }
     let n = credential.len() / 4;
     check_bytes::check(
         file,
+        withdrawals,
         role,
         set,
         minute,
@@ -83,22 +99,27 @@ pub extern "C" fn rtt_check(
     )
 }
 
-// Writes the ends of the file's periods into 256 bytes.
+// Writes the ends of the file's periods after its withdrawals into 256 bytes.
 #[no_mangle]
-pub extern "C" fn rtt_ends(file: &[u8], ends: &mut [u8]) -> u64
-    ensures { λ r. ⌜ r ≡ word (λ n. n) (endsReply (now (file .entry)) (now (ends .entry))) ⌝ }
-    ensures { λ _. ⌜ now (ends .exit) ≡ endsBytes (now (file .entry)) (now (ends .entry)) ⌝ }
+pub extern "C" fn rtt_ends(file: &[u8], withdrawals: &[u8], ends: &mut [u8]) -> u64
+    ensures { λ r. ⌜ r ≡ word (λ n. n) (endsReply (now (file .entry) without now (withdrawals .entry)) (now (ends .entry))) ⌝ }
+    ensures { λ _. ⌜ now (ends .exit) ≡ endsBytes (now (file .entry) without now (withdrawals .entry)) (now (ends .entry)) ⌝ }
 {
-    ends_bytes::ends(ends, file)
+    ends_bytes::ends(ends, file, withdrawals)
 }
 
 // Writes the intervals of a span number, from and to in turn, into 256 bytes.
 #[no_mangle]
-pub extern "C" fn rtt_intervals(file: &[u8], spans: u64, bounds: &mut [u8]) -> u64
-    ensures { λ r. ⌜ r ≡ word (λ n. n) (intervalsReply (now (file .entry)) spans (now (bounds .entry))) ⌝ }
-    ensures { λ _. ⌜ now (bounds .exit) ≡ intervalsBytes (now (file .entry)) spans (now (bounds .entry)) ⌝ }
+pub extern "C" fn rtt_intervals(
+    file: &[u8],
+    withdrawals: &[u8],
+    spans: u64,
+    bounds: &mut [u8],
+) -> u64
+    ensures { λ r. ⌜ r ≡ word (λ n. n) (intervalsReply (now (file .entry) without now (withdrawals .entry)) spans (now (bounds .entry))) ⌝ }
+    ensures { λ _. ⌜ now (bounds .exit) ≡ intervalsBytes (now (file .entry) without now (withdrawals .entry)) spans (now (bounds .entry)) ⌝ }
 {
-    intervals_bytes::intervals(bounds, file, spans)
+    intervals_bytes::intervals(bounds, file, withdrawals, spans)
 }
 
 // Writes the new file of an old one; the reply is the count of its credentials.

@@ -7,16 +7,15 @@ use lib.ListN.{length}
 use Rattle.meaning.specs.Table.{ends}
 use Rattle.file.specs.declared.Refusal.{Refusal}
 use Rattle.file.specs.Refusals.{RefusalRow, Outcome, done, refused, first, numberOf, placeOf}
-use Rattle.file.specs.Format.{credentials}
-use Rattle.file.specs.Reading.{reading}
+use Rattle.withdrawals.specs.Source.{Source, credentials, reading}
+use Rattle.withdrawals.proofs.Credentials.{reading-numbered}
 use Rattle.file.proofs.First.{after, first-append, refusal-any, first-clear}
 use Rattle.survey.specs.declared.Summary.{Summary}
 use Rattle.survey.specs.Ends.{endsRead}
 use Rattle.survey.specs.Surveying.{Surveyed}
 use Rattle.survey.proofs.Holds.{padded-length}
-use Rattle.survey.proofs.Surveying.{reading-numbered}
 
-module _ (f p es : List ℕ) (s : Summary) (found : Surveyed f p es s) where
+module _ (f : Source) (p es : List ℕ) (s : Summary) (found : Surveyed f p es s) where
   abbrev all : List ℕ
   all = ends (credentials f)
 

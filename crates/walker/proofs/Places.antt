@@ -17,7 +17,7 @@ use Rattle.file.specs.declared.Found.the-variants.{Credential, End}
 use Rattle.file.specs.declared.Credential as D
 use Rattle.file.proofs.First.{outcomeOf, first-refusal}
 use Rattle.file.proofs.Sizes.{headed}
-use Rattle.survey.proofs.Surveying.{reading-numbered}
+use Rattle.file.proofs.Rows.{reading-numbered}
 use Rattle.walker.specs.Walking.{opened, foundAt}
 
 -- a credential stands only below N, which is at most 256

@@ -85,7 +85,7 @@ fn open(file: &[u8]) -> file::Refusal
 {
     let mut policy = policy::room();
     let mut ends = survey::no_ends();
-    let summary = survey::survey(&mut policy, &mut ends, file);
+    let summary = survey::survey_file(&mut policy, &mut ends, file);
     file::Refusal {
         number: summary.number,
         place: summary.place,

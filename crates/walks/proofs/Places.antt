@@ -21,7 +21,7 @@ use Rattle.file.specs.declared.Refusal.{Refusal}
 use Rattle.file.proofs.First.{outcomeOf, first-refusal}
 use Rattle.file.proofs.Refusals.{accepted-exact}
 use Rattle.file.proofs.Accepted.{accepted-found, accepted-end}
-use Rattle.survey.proofs.Surveying.{reading-numbered}
+use Rattle.file.proofs.Rows.{reading-numbered}
 use Rattle.walker.specs.Walking.{opened, foundAt, following, nextOf}
 use Rattle.walker.specs.declared.Walker.{Walker}
 use Rattle.walker.proofs.Places.{found-below}

@@ -10,11 +10,11 @@ room-requires c κs = search needs
 no-ends-requires : tie.Need-no-ends-requires
 no-ends-requires c κs = search needs
 
-survey-requires : tie.Need-survey-requires
-survey-requires c κs = search needs
+survey-file-requires : tie.Need-survey-file-requires
+survey-file-requires c κs = search needs
 
 returns : tie.Need-returns
-returns c = let s = c .survey in judges (c .before .before .before .before .before .before .args .file .now) (s .last .0) (s .last .1 .0) (s .result) (s .ensures)
+returns c = let s = c .survey-file in judges (c .before .before .before .before .before .before .args .file .now) (s .result) (s .ensures)
 
 pub judge-spec : {M : Type 1} → statement M
-judge-spec = tie.close (tie.spec room-requires no-ends-requires survey-requires returns)
+judge-spec = tie.close (tie.spec room-requires no-ends-requires survey-file-requires returns)

@@ -5,7 +5,8 @@ use native.Mathlib.Omega.{arith}
 use borrow.Author.Tests.{not-true, not-false}
 use Rattle.meaning.specs.Credentials.{Credential}
 use Rattle.file.specs.declared.Refusal.{Refusal}
-use Rattle.policy.specs.Policy.{credentialsOf, PolicyOf}
+use Rattle.policy.specs.Policy.{credentialsOf}
+use Rattle.cutting.specs.Policy.{PolicyOf}
 use Rattle.asking.specs.declared.Admission.{Admission}
 use Rattle.asking.specs.Asking.{Request, request, StepLists, stepLists}
 use Rattle.checking.specs.Checking.{partBefore, checking}
@@ -13,6 +14,7 @@ use Rattle.checking.specs.Walks.{Walkable, concluding}
 use Rattle.checking.proofs.Answers.{request-refused, count-refused, count-passed, walkable, walk-concludes}
 use borrow.Author.Needs.{needs}
 use Rattle.checking.proofs.check.Statement.{statement}
+use Rattle.withdrawals.specs.Source.{_without_}
 use Rattle.checking.proofs.check.Tie as tie
 
 abbrev q : tie.Start → Request
@@ -32,39 +34,39 @@ judge-requires c κs = search needs
 
 returns : tie.Need-returns
 returns c =
-    let s = c .before .before .before .before .before .before .before .before .before .before in
+    let s = c .before .before .before .before .before .before .before .before .before .before .before in
     let j = c .before .before .judge in
-    request-refused (s .args .file .now) (q s) (t s) (s .args .steps) (asked (j .result)) (j .ensures .refusal) (c .if1 .taken)
+    request-refused (s .args .file .now without s .args .withdrawals .now) (q s) (t s) (s .args .steps) (asked (j .result)) (j .ensures .refusal) (c .if1 .taken)
 
 returns-2 : tie.Need-returns-2
 returns-2 c =
-    let s = c .before .before .before .before .before .before .before .before .before .before .before in
+    let s = c .before .before .before .before .before .before .before .before .before .before .before .before in
     let j = c .before .before .before .judge in
-    count-refused (s .args .file .now) (q s) (t s) (s .args .steps) (asked (j .result)) (j .ensures .refusal) (c .before .if1 .left) (not-true _ (c .if2 .taken))
+    count-refused (s .args .file .now without s .args .withdrawals .now) (q s) (t s) (s .args .steps) (asked (j .result)) (j .ensures .refusal) (c .before .if1 .left) (not-true _ (c .if2 .taken))
 
 -- nothing of the request or of the count is refused, and the policy is there
 abbrev start : tie.After-policy2 → tie.Start
-start c = c .before .before .before .before .before .before .before .before .before .before .before .before
+start c = c .before .before .before .before .before .before .before .before .before .before .before .before .before
 
 abbrev judging : tie.After-policy2 → tie.After-judge
 judging c = c .before .before .before .before
 
-decoded : (c : tie.After-policy2) → PolicyOf (start c .args .file .now) (judging c .judge .last .0) (judging c .judge .result .credentials)
+decoded : (c : tie.After-policy2) → PolicyOf (start c .args .file .now without start c .args .withdrawals .now) (judging c .judge .last .0) (judging c .judge .result .credentials)
 decoded c = judging c .judge .ensures .policy (c .before .before .if1 .left)
 
 able : (c : tie.After-policy2) → Walkable (judging c .judge .result .credentials) (partBefore (start c .args .steps) (t (start c))) (start c .args .steps)
 able c =
     let s = start c in
     let j = judging c .judge in
-    walkable (s .args .file .now) (q s) (t s) (s .args .steps) (asked (j .result)) (j .ensures .refusal) (c .before .before .if1 .left) (not-false _ (c .before .if2 .left)) (decoded c .decoded .few)
+    walkable (s .args .file .now without s .args .withdrawals .now) (q s) (t s) (s .args .steps) (asked (j .result)) (j .ensures .refusal) (c .before .before .if1 .left) (not-false _ (c .before .if2 .left)) (decoded c .decoded .few)
 
 concluded : (c : tie.After-policy2) → let s = start c in
-    concluding (credentialsOf (judging c .judge .last .0) (judging c .judge .result .credentials)) (q s) (partBefore (s .args .steps) (t s)) (s .args .steps) ≡ checking (s .args .file .now) (q s) (t s) (s .args .steps)
+    concluding (credentialsOf (judging c .judge .last .0) (judging c .judge .result .credentials)) (q s) (partBefore (s .args .steps) (t s)) (s .args .steps) ≡ checking (s .args .file .now without s .args .withdrawals .now) (q s) (t s) (s .args .steps)
 concluded c =
     let s = start c in
     let j = judging c .judge in
     ap (λ (cs : List Credential). concluding cs (q s) (partBefore (s .args .steps) (t s)) (s .args .steps)) (decoded c .means)
-    ∙ count-passed (s .args .file .now) (q s) (t s) (s .args .steps) (asked (j .result)) (j .ensures .refusal) (c .before .before .if1 .left) (not-false _ (c .before .if2 .left))
+    ∙ count-passed (s .args .file .now without s .args .withdrawals .now) (q s) (t s) (s .args .steps) (asked (j .result)) (j .ensures .refusal) (c .before .before .if1 .left) (not-false _ (c .before .if2 .left))
 
 slice-aggregate-walk : tie.Need-slice-aggregate-walk
 slice-aggregate-walk c = sym (able (c .before) .credential)

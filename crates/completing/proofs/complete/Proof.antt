@@ -1,6 +1,7 @@
 -- `completing::complete` meets its contract.
 use mathlib.Core.Path.{sym, _∙_}
 use borrow.Author.Tests.{not-true, not-false}
+use Rattle.withdrawals.specs.Source.{_without_}
 use Rattle.completing.specs.Completing.{Lent, lent}
 use Rattle.completing.proofs.Replies.{refused-ending, nine-ending, lengths, loadable, last-ending}
 use borrow.Author.Needs.{needs}
@@ -9,7 +10,7 @@ use Rattle.completing.proofs.complete.Tie as tie
 
 -- the function's entry, and the file's survey, from where the lengths were compared
 abbrev start : tie.After-of-one-length → tie.Start
-start c = c .before .before .before .before .before .before .before .before .before .before .before .before
+start c = c .before .before .before .before .before .before .before .before .before .before .before .before .before
 
 abbrev surveyed : tie.After-of-one-length → tie.After-survey
 surveyed c = c .before .before .before
@@ -35,7 +36,7 @@ of-one-length-requires c κs = search needs
 returns-2 : tie.Need-returns-2
 returns-2 c =
     let m = c .before in
-    nine-ending (start m .args .file .now) (lists m) _ _ _ (surveyed m .survey .ensures) (m .before .if1 .left) (sym (m .of-one-length .ensures) ∙ not-true _ (c .if2 .taken))
+    nine-ending (start m .args .file .now without start m .args .withdrawals .now) (lists m) _ _ _ (surveyed m .survey .ensures) (m .before .if1 .left) (sym (m .of-one-length .ensures) ∙ not-true _ (c .if2 .taken))
 
 span-count-requires : tie.Need-span-count-requires
 span-count-requires c κs = search needs
@@ -44,8 +45,8 @@ finish-requires : tie.Need-finish-requires
 finish-requires c κs =
     let m = c .before .before .before .before .before .before .before in
     let fits = sym (m .of-one-length .ensures) ∙ not-false _ (c .before .before .before .before .before .before .if2 .left) in
-    let l = lengths (start m .args .file .now) (lists m) _ _ _ (surveyed m .survey .ensures) (m .before .if1 .left) fits in
-    (loadable (start m .args .file .now) (lists m) _ _ _ (surveyed m .survey .ensures) (m .before .if1 .left) fits (c .before .before .before .before .before .span-count .ensures), (l .0, l .1))
+    let l = lengths (start m .args .file .now without start m .args .withdrawals .now) (lists m) _ _ _ (surveyed m .survey .ensures) (m .before .if1 .left) fits in
+    (loadable (start m .args .file .now without start m .args .withdrawals .now) (lists m) _ _ _ (surveyed m .survey .ensures) (m .before .if1 .left) fits (c .before .before .before .before .before .span-count .ensures), (l .0, l .1))
 
 same-length : tie.Need-same-length
 same-length c = c .before .before .before .before .before .before .finish .kept .0
@@ -60,7 +61,7 @@ returns-3 : tie.Need-returns-3
 returns-3 c =
     let f = c .before .before .before .before .before .before in
     let m = f .before .before .before .before .before .before .before .before in
-    last-ending (start m .args .file .now) (lists m) _ _ _ (surveyed m .survey .ensures) (m .before .if1 .left) (sym (m .of-one-length .ensures) ∙ not-false _ (f .before .before .before .before .before .before .before .if2 .left)) (f .finish .ensures)
+    last-ending (start m .args .file .now without start m .args .withdrawals .now) (lists m) _ _ _ (surveyed m .survey .ensures) (m .before .if1 .left) (sym (m .of-one-length .ensures) ∙ not-false _ (f .before .before .before .before .before .before .before .if2 .left)) (f .finish .ensures)
 
 pub complete-spec : {M : Type 1} → statement M
 complete-spec =

@@ -10,6 +10,12 @@ Inv-loop file list count i₀ i = i ≤ 64
 abbrev μ-loop : tie.MeasureT-loop
 μ-loop file list count i₀ i = 64 - i
 
+none-requires : tie.Need-none-requires Inv-loop μ-loop
+none-requires c κs = search needs
+
+slice-aggregate-ends-of : tie.Need-slice-aggregate-ends-of Inv-loop μ-loop
+slice-aggregate-ends-of c = search needs
+
 ends-of-requires : tie.Need-ends-of-requires Inv-loop μ-loop
 ends-of-requires c κs = search needs
 
@@ -67,6 +73,8 @@ print-ends-spec =
     (tie.spec
     Inv-loop
     μ-loop
+    none-requires
+    slice-aggregate-ends-of
     ends-of-requires
     print-refusal-requires
     explain-requires

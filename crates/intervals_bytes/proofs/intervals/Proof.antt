@@ -4,6 +4,7 @@ use native.Mathlib.Omega.{arith}
 use Rattle.intervals_bytes.proofs.Replies.{refused-ended, fits, done-ended}
 use borrow.Author.Needs.{needs}
 use Rattle.intervals_bytes.proofs.intervals.Statement.{statement}
+use Rattle.withdrawals.specs.Source.{_without_}
 use Rattle.intervals_bytes.proofs.intervals.Tie as tie
 
 intervals-of-requires : tie.Need-intervals-of-requires
@@ -16,8 +17,8 @@ refusal-requires : tie.Need-refusal-requires
 refusal-requires c κs = search needs
 
 returns : tie.Need-returns
-returns c = let a = c .before .before .before .before .before .before .args in let x = c .before .before .before .intervals-of in let y = c .before .before .number-for in
-    let k = refused-ended (a .file .now) (a .spans) (a .bounds .now) (x .result) (x .ensures) (y .result) (y .ensures) (c .before .if1 .taken) in
+returns c = let a = c .before .before .before .before .before .before .before .args in let x = c .before .before .before .intervals-of in let y = c .before .before .number-for in
+    let k = refused-ended (a .file .now without a .withdrawals .now) (a .spans) (a .bounds .now) (x .result) (x .ensures) (y .result) (y .ensures) (c .before .if1 .taken) in
     (c .refusal .ensures ∙ k .0, k .1)
 
 bounds-of-requires : tie.Need-bounds-of-requires
@@ -27,8 +28,8 @@ slice-aggregate-encode32 : tie.Need-slice-aggregate-encode32
 slice-aggregate-encode32 c = search needs
 
 encode32-requires : tie.Need-encode32-requires
-encode32-requires c κs = let a = c .before .before .before .before .before .before .before .before .before .args in let x = c .before .before .before .before .before .before .intervals-of in let y = c .before .before .before .before .before .number-for in
-    let k = fits (a .file .now) (a .spans) (a .bounds .now) (x .result) (x .ensures) (y .result) (y .ensures) (c .before .before .before .before .if1 .left) (c .before .before .bounds-of .ensures) in
+encode32-requires c κs = let a = c .before .before .before .before .before .before .before .before .before .before .args in let x = c .before .before .before .before .before .before .intervals-of in let y = c .before .before .before .before .before .number-for in
+    let k = fits (a .file .now without a .withdrawals .now) (a .spans) (a .bounds .now) (x .result) (x .ensures) (y .result) (y .ensures) (c .before .before .before .before .if1 .left) (c .before .before .bounds-of .ensures) in
     omega arith
 
 cast-result : tie.Need-cast-result
@@ -38,8 +39,8 @@ same-length : tie.Need-same-length
 same-length c = search needs
 
 returns-2 : tie.Need-returns-2
-returns-2 c = let a = c .before .before .before .before .before .before .before .before .before .before .before .before .before .args in let x = c .before .before .before .before .before .before .before .before .before .before .intervals-of in let y = c .before .before .before .before .before .before .before .before .before .number-for in
-    done-ended (a .file .now) (a .spans) (a .bounds .now) (x .result) (x .ensures) (y .result) (y .ensures) (c .before .before .before .before .before .before .before .before .if1 .left) (c .before .before .before .before .before .before .bounds-of .ensures) (c .before .before .before .encode32 .ensures)
+returns-2 c = let a = c .before .before .before .before .before .before .before .before .before .before .before .before .before .before .args in let x = c .before .before .before .before .before .before .before .before .before .before .intervals-of in let y = c .before .before .before .before .before .before .before .before .before .number-for in
+    done-ended (a .file .now without a .withdrawals .now) (a .spans) (a .bounds .now) (x .result) (x .ensures) (y .result) (y .ensures) (c .before .before .before .before .before .before .before .before .if1 .left) (c .before .before .before .before .before .before .bounds-of .ensures) (c .before .before .before .encode32 .ensures)
 
 pub intervals-spec : {M : Type 1} → statement M
 intervals-spec =

@@ -24,25 +24,25 @@ rtt-check-requires : tie.Need-rtt-check-requires
 rtt-check-requires c κs = search needs
 
 same-length : tie.Need-same-length
-same-length c = completed c .rtt-complete .kept .1 .0
+same-length c = completed c .rtt-complete .kept .1 .1 .0
 
 same-length-2 : tie.Need-same-length-2
-same-length-2 c = completed c .rtt-complete .kept .1 .1 .0
+same-length-2 c = completed c .rtt-complete .kept .1 .1 .1 .0
 
 same-length-3 : tie.Need-same-length-3
-same-length-3 c = completed c .rtt-complete .kept .1 .1 .1 .0
+same-length-3 c = completed c .rtt-complete .kept .1 .1 .1 .1 .0
 
 same-length-4 : tie.Need-same-length-4
-same-length-4 c = queried c .rtt-query .kept .1 .1 .1 .1 .0
+same-length-4 c = queried c .rtt-query .kept .1 .1 .1 .1 .1 .0
 
 same-length-5 : tie.Need-same-length-5
-same-length-5 c = queried c .rtt-query .kept .1 .1 .1 .1 .1 .0
+same-length-5 c = queried c .rtt-query .kept .1 .1 .1 .1 .1 .1 .0
 
 same-length-6 : tie.Need-same-length-6
-same-length-6 c = queried c .rtt-query .kept .1 .1 .1 .1 .1 .1 .0
+same-length-6 c = queried c .rtt-query .kept .1 .1 .1 .1 .1 .1 .1 .0
 
 same-length-7 : tie.Need-same-length-7
-same-length-7 c = queried c .rtt-query .kept .1 .1 .1 .1 .1 .1 .1 .0
+same-length-7 c = queried c .rtt-query .kept .1 .1 .1 .1 .1 .1 .1 .1 .0
 
 returns : tie.Need-returns
 returns c = together (completed c .rtt-complete .ensures) (queried c .rtt-query .ensures) (c .before .before .before .before .before .steps-of .ensures) (c .rtt-check .ensures)

@@ -10,6 +10,12 @@ Inv-loop file role set spans list count i₀ i = i ≤ 32
 abbrev μ-loop : tie.MeasureT-loop
 μ-loop file role set spans list count i₀ i = 32 - i
 
+none-requires : tie.Need-none-requires Inv-loop μ-loop
+none-requires c κs = search needs
+
+slice-aggregate-intervals-of : tie.Need-slice-aggregate-intervals-of Inv-loop μ-loop
+slice-aggregate-intervals-of c = search needs
+
 intervals-of-requires : tie.Need-intervals-of-requires Inv-loop μ-loop
 intervals-of-requires c κs = search needs
 
@@ -52,6 +58,8 @@ print-membership-spec =
     (tie.spec
     Inv-loop
     μ-loop
+    none-requires
+    slice-aggregate-intervals-of
     intervals-of-requires
     cast-count
     loop-holds

@@ -10,6 +10,7 @@ use Rattle.querying.proofs.Working.{same-lengths, role-below, writable}
 use Rattle.querying.proofs.Replies.{request-refused, queried}
 use borrow.Author.Needs.{needs}
 use Rattle.querying.proofs.query.Statement.{statement}
+use Rattle.withdrawals.specs.Source.{_without_}
 use Rattle.querying.proofs.query.Tie as tie
 
 abbrev q : tie.Start → Request
@@ -23,13 +24,13 @@ asked j = record { number = j .number; place = j .place }
 
 -- the function's entry, from where the request was judged, and that from where it was not refused
 abbrev entry : tie.After-judge → tie.Start
-entry j = j .before .before .before .before .before .before .before .before .before .before .before .before
+entry j = j .before .before .before .before .before .before .before .before .before .before .before .before .before
 
 abbrev judged : tie.Else1 → tie.After-judge
 judged c = c .before .before
 
-passes : (c : tie.Else1) → let s = entry (judged c) in Askable (s .args .file .now) (q s) (t s)
-passes c = let s = entry (judged c) in let j = judged c .judge in askable (s .args .file .now) (q s) (t s) (asked (j .result)) (j .ensures .refusal) (c .if1 .left)
+passes : (c : tie.Else1) → let s = entry (judged c) in Askable (s .args .file .now without s .args .withdrawals .now) (q s) (t s)
+passes c = let s = entry (judged c) in let j = judged c .judge in askable (s .args .file .now without s .args .withdrawals .now) (q s) (t s) (asked (j .result)) (j .ensures .refusal) (c .if1 .left)
 
 room-requires : tie.Need-room-requires
 room-requires c κs = search needs
@@ -56,8 +57,8 @@ returns : tie.Need-returns
 returns c =
     let j = c .before .before .before in
     let s = entry j in
-    subst⁻¹ (λ (o : Outcome Counts). Queried (s .args .file .now) (q s) (t s) o (t s)) (c .refused .ensures)
-    (request-refused (s .args .file .now) (q s) (t s) (asked (j .judge .result)) (j .judge .ensures .refusal) (c .before .if1 .taken))
+    subst⁻¹ (λ (o : Outcome Counts). Queried (s .args .file .now without s .args .withdrawals .now) (q s) (t s) o (t s)) (c .refused .ensures)
+    (request-refused (s .args .file .now without s .args .withdrawals .now) (q s) (t s) (asked (j .judge .result)) (j .judge .ensures .refusal) (c .before .if1 .taken))
 
 room-for-keys-requires : tie.Need-room-for-keys-requires
 room-for-keys-requires c κs = search needs
@@ -96,7 +97,7 @@ returns-2 c =
     let e = f .before .before .before .before .before .before in
     let j = judged e .judge in
     let s = entry (judged e) in
-    queried (s .args .file .now) (q s) (t s) (asked (j .result)) (j .ensures .refusal) (e .if1 .left) (j .ensures .policy (e .if1 .left) .means) (f .find .ensures) (s .fits .set .fits) (h .hand-out .ensures)
+    queried (s .args .file .now without s .args .withdrawals .now) (q s) (t s) (asked (j .result)) (j .ensures .refusal) (e .if1 .left) (j .ensures .policy (e .if1 .left) .means) (f .find .ensures) (s .fits .set .fits) (h .hand-out .ensures)
 
 pub query-spec : {M : Type 1} → statement M
 query-spec =

@@ -6,6 +6,7 @@ use Rattle.complete_bytes.proofs.Fitting.{table-sizes}
 use Rattle.complete_bytes.proofs.Tables.{unfit-word, unfit-kept}
 use borrow.Author.Needs.{needs}
 use Rattle.rtt.proofs.rtt_complete.Statement.{statement}
+use Rattle.withdrawals.specs.Source.{_without_}
 use Rattle.rtt.proofs.rtt_complete.Tie as tie
 
 table-fits-requires : tie.Need-table-fits-requires
@@ -15,13 +16,13 @@ refuse-requires : tie.Need-refuse-requires
 refuse-requires c κs = search needs
 
 returns : tie.Need-returns
-returns c = let a = c .before .before .before .before .before .before .before .args in
+returns c = let a = c .before .before .before .before .before .before .before .before .args in
     let b = lent (a .roles .now) (a .sets .now) (a .spans .now) in
     let e = sym (c .before .before .table-fits .ensures) ∙ not-true _ (c .before .if1 .taken) in
-    (c .refuse .ensures ∙ unfit-word (a .file .now) b e, unfit-kept (a .file .now) b e)
+    (c .refuse .ensures ∙ unfit-word (a .file .now without a .withdrawals .now) b e, unfit-kept (a .file .now without a .withdrawals .now) b e)
 
 complete-requires : tie.Need-complete-requires
-complete-requires c κs = let a = c .before .before .before .before .before .before .before .before .before .args in
+complete-requires c κs = let a = c .before .before .before .before .before .before .before .before .before .before .args in
     table-sizes (lent (a .roles .now) (a .sets .now) (a .spans .now)) (sym (c .before .before .before .before .table-fits .ensures) ∙ not-false _ (c .before .before .before .if1 .left))
 
 same-length : tie.Need-same-length

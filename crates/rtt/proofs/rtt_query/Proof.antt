@@ -6,6 +6,7 @@ use Rattle.replies.proofs.Fitting.{steps-sizes}
 use Rattle.query_bytes.proofs.Queries.{unfit-queried}
 use borrow.Author.Needs.{needs}
 use Rattle.rtt.proofs.rtt_query.Statement.{statement}
+use Rattle.withdrawals.specs.Source.{_without_}
 use Rattle.rtt.proofs.rtt_query.Tie as tie
 
 steps-fit-requires : tie.Need-steps-fit-requires
@@ -15,11 +16,11 @@ refuse-requires : tie.Need-refuse-requires
 refuse-requires c κs = search needs
 
 returns : tie.Need-returns
-returns c = let a = c .before .before .before .before .before .before .before .before .args in
-    unfit-queried (a .file .now) (request (a .role) (a .set) (a .minute)) (stepLists (a .credential .now) (a .first .now) (a .second .now) (a .sets .now)) (sym (c .before .before .steps-fit .ensures) ∙ not-true _ (c .before .if1 .taken)) (c .refuse .ensures)
+returns c = let a = c .before .before .before .before .before .before .before .before .before .args in
+    unfit-queried (a .file .now without a .withdrawals .now) (request (a .role) (a .set) (a .minute)) (stepLists (a .credential .now) (a .first .now) (a .second .now) (a .sets .now)) (sym (c .before .before .steps-fit .ensures) ∙ not-true _ (c .before .if1 .taken)) (c .refuse .ensures)
 
 query-requires : tie.Need-query-requires
-query-requires c κs = let a = c .before .before .before .before .before .before .before .before .before .before .before .args in
+query-requires c κs = let a = c .before .before .before .before .before .before .before .before .before .before .before .before .args in
     steps-sizes (stepLists (a .credential .now) (a .first .now) (a .second .now) (a .sets .now)) (sym (c .before .before .before .before .before .steps-fit .ensures) ∙ not-false _ (c .before .before .before .before .if1 .left))
 
 same-length : tie.Need-same-length

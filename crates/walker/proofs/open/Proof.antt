@@ -15,15 +15,15 @@ room-requires c κs = search needs
 no-ends-requires : tie.Need-no-ends-requires
 no-ends-requires c κs = search needs
 
-survey-requires : tie.Need-survey-requires
-survey-requires c κs = search needs
+survey-file-requires : tie.Need-survey-file-requires
+survey-file-requires c κs = search needs
 
 returns : tie.Need-returns
 returns c =
     let f = c .before .before .before .before .before .before .args .file .now in
-    let s = c .survey .ensures in
+    let s = c .survey-file .ensures in
     let e = refusal-any (reading f) (ends (credentials f)) in
     λ i. record { number = (s .number ∙ ap (λ (r : Refusal). r .number) e) i; place = (s .place ∙ ap (λ (r : Refusal). r .place) e) i }
 
 pub open-spec : {M : Type 1} → statement M
-open-spec = tie.close (tie.spec room-requires no-ends-requires survey-requires returns)
+open-spec = tie.close (tie.spec room-requires no-ends-requires survey-file-requires returns)

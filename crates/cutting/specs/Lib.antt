@@ -1,0 +1,2 @@
+pub mod Policy
+pub mod Cutting

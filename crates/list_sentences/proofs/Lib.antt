@@ -1,0 +1,4 @@
+mod Wording
+mod Searching
+mod Naming
+pub mod Claims

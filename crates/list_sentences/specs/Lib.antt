@@ -1,0 +1,3 @@
+pub mod ListSentences
+pub mod Named
+pub mod ListWords

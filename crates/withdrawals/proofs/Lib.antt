@@ -1,0 +1,9 @@
+pub mod Tests
+pub mod Sizes
+pub mod Searching
+pub mod Refusals
+pub mod Cuts
+pub mod Credentials
+pub mod Ends
+pub mod Exact
+pub mod Claims

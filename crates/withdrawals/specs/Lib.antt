@@ -1,0 +1,5 @@
+pub mod List
+pub mod Cut
+pub mod Source
+pub mod Conditions
+pub mod Samples
