@@ -174,6 +174,86 @@ static int may_release(const uint8_t *file, size_t length, uint32_t role, uint32
     return rtt_may_release(file, length, withdrawals, withdrawals_length, role, set, minute);
 }
 
+/* Every word of the last query's steps names a credential of the file or a step of the proof. */
+static int words_below(const uint8_t *file, uint32_t steps)
+{
+    uint32_t credentials = file[4] + 256u * file[5], i = 0;
+    while (i < steps && rtt_entry32(a.bytes, i) < credentials && rtt_entry32(b.bytes, i) < steps && rtt_entry32(c.bytes, i) < steps)
+        i++;
+    return i == steps;
+}
+
+/* A membership at a minute that has `held` of them, the least L with which there is a proof. Its level is at most `held`, with that L and the greatest. */
+static int level_bounded(const uint8_t *file, size_t length, uint32_t role, uint32_t set, uint32_t minute, uint32_t held)
+{
+    const size_t with[] = {held, RTT_ENTRIES};
+    uint32_t levels[2];
+    for (int i = 0; i < 2; i++) {
+        uint64_t got = query(file, length, role, set, minute, with[i]);
+        levels[i] = rtt_level(got);
+        if (!rtt_ok(got) || levels[i] < 1 || levels[i] > rtt_steps(got) || rtt_steps(got) > held || held > with[i] || !words_below(file, rtt_steps(got))
+            || check_left(file, length, role, set, minute, with[i], rtt_steps(got)) != levels[i])
+            return 0;
+    }
+    return levels[0] == levels[1];
+}
+
+static int all_zero(size_t length)
+{
+    return zero(&a, length) && zero(&b, length) && zero(&c, length) && zero(&d, length);
+}
+
+/* With one entry less there is 10, and with none 9. */
+static int one_less_refused(const uint8_t *file, size_t length, uint32_t role, uint32_t set, uint32_t minute, uint32_t held)
+{
+    uint64_t got = query(file, length, role, set, minute, held - 1);
+    if (held == 1)
+        return got == refusal(9, 0) && untouched(&a) && untouched(&b) && untouched(&c) && untouched(&d);
+    return got == refusal(10, 0) && all_zero(4 * (size_t)held - 4);
+}
+
+/* Request Five of document 02, on a file that is accepted with the withdrawal list: at any minute no level exceeds the number of memberships, which is
+   counted in the table. All memberships at the minutes up to 99, and at, before and after each end. */
+static void bounded(int line, const uint8_t *file, size_t length)
+{
+    static uint32_t in_roles[RTT_ENTRIES], in_sets[RTT_ENTRIES];
+    static uint64_t in_spans[RTT_ENTRIES];
+    uint32_t in_ends[64], held;
+    size_t count = (size_t)complete(file, length, RTT_ENTRIES);
+    int most = count <= RTT_ENTRIES, least = 1, others = 1;
+    for (size_t i = 0; most && i < count; i++) {
+        in_roles[i] = rtt_entry32(a.bytes, i);
+        in_sets[i] = rtt_entry32(b.bytes, i);
+        in_spans[i] = rtt_entry64(c.bytes, i);
+    }
+    size_t last = (size_t)ends(file, length, RTT_ENDS_BYTES);
+    most &= last <= 64;
+    for (size_t i = 0; most && i < last; i++)
+        in_ends[i] = rtt_entry32(a.bytes, i);
+    for (size_t n = 0; most && n < 100 + 3 * last; n++) {
+        uint32_t minute = n < 100 ? (uint32_t)n : in_ends[(n - 100) / 3] + (uint32_t)((n - 100) % 3) - 1u;
+        uint64_t span = 0;
+        if (minute == 4294967295u)
+            continue;
+        for (size_t i = 0; i + 1 < last; i++)
+            if (in_ends[i] <= minute && minute < in_ends[i + 1])
+                span = (uint64_t)1 << i;
+        held = 0;
+        for (size_t i = 0; i < count; i++)
+            held += (in_spans[i] & span) != 0;
+        for (size_t i = 0; i < count; i++)
+            if ((in_spans[i] & span) != 0) {
+                most &= level_bounded(file, length, in_roles[i], in_sets[i], minute, held);
+                least &= one_less_refused(file, length, in_roles[i], in_sets[i], minute, held);
+            } else {
+                others &= query(file, length, in_roles[i], in_sets[i], minute, RTT_ENTRIES) == refusal(13, 0) && all_zero(4 * RTT_ENTRIES);
+            }
+    }
+    expect(line, most, "a level is at most the number of memberships at the minute, and that at most L");
+    expect(line, least, "with one entry less than memberships at the minute there is 10, and zeros");
+    expect(line, others, "at other minutes there is 13, and zeros");
+}
+
 static void replies(void)
 {
     uint64_t refused = refusal(15, 2), found = 3 + 2 * 65536;
@@ -250,6 +330,7 @@ static void roles(void)
     EXPECT(check(file, sizeof file, rtt_role(0, 34), 1, 5, 1) == refusal(11, 0));
     EXPECT(may_release(file, sizeof file, rtt_role(1, 2), 1, 5) == 1);
     EXPECT(may_release(file, sizeof file, rtt_role(0, 34), 1, 5) == 0);
+    bounded(__LINE__, file, sizeof file);
 }
 
 /* Memberships 0.0 {1}, 0.0 {2} and 0.1 {1,2}, in spans 14, 28 and 4. */
@@ -406,6 +487,7 @@ static void empty(void)
     EXPECT(intervals(file, sizeof file, 0, RTT_BOUNDS_BYTES) == 0 && zero(&a, RTT_BOUNDS_BYTES));
     EXPECT(intervals(file, sizeof file, 1, RTT_BOUNDS_BYTES) == refusal(11, 0) && untouched(&a));
     EXPECT(may_release(file, sizeof file, 0, 1, 0) == 0);
+    bounded(__LINE__, file, sizeof file);
 }
 
 /* Each call that takes a withdrawal list refuses so, whether its other arguments are wrong or those that P answers, and leaves the lists as they were. */
@@ -513,6 +595,7 @@ static void reads_as_p(int line, const uint8_t *file)
     expect(line, ends(file, sizeof P, RTT_ENDS_BYTES) == 6, "six ends");
     expect(line, intervals(file, sizeof P, 14, RTT_BOUNDS_BYTES) == 1, "one interval");
     expect(line, may_release(file, sizeof P, rtt_role(0, 1), 6, 15) == 1, "release");
+    bounded(line, file, sizeof P);
 }
 
 static void serials(void)
@@ -562,6 +645,7 @@ static void covers(int line, uint32_t from, uint32_t to)
     expect(line, from == 0 || query(file, 26, 0, 1, from - 1, 1) == refusal(13, 0), "the minute before is not");
     expect(line, query(file, 26, 0, 1, to + 1, 1) == refusal(to == 4294967294u ? 12 : 13, 0), "nor is the one after");
     expect(line, may_release(file, 26, 0, 1, to) == 1 && may_release(file, 26, 0, 1, to + 1) == 0, "release up to the last minute");
+    bounded(line, file, 26);
 }
 
 static void periods(void)
@@ -590,10 +674,12 @@ static void too_many_ends(void)
             file[6 + 12 * i + 8] = (uint8_t)(i + 1);
             file[6 + 12 * n + 8 * i] = file[6 + 12 * n + 8 * i + 4] = (uint8_t)(2 * i);
         }
-        if (n == 32)
+        if (n == 32) {
             EXPECT(ends(file, 6 + 20 * 32, RTT_ENDS_BYTES) == 64);
-        else
+            bounded(__LINE__, file, 6 + 20 * 32);
+        } else {
             refused_by_all(__LINE__, file, sizeof file, refusal(8, 0));
+        }
         file[6 + 12 * 31 + 8] = 1;
         refused_by_all(__LINE__, file, 6 + 20 * (size_t)n, refusal(17, 31));
     }
@@ -745,6 +831,7 @@ static void largest(void)
         if (minutes == 32) {
             EXPECT(forward(old, sizeof old, sizeof file) == 256 && is(&a, file, sizeof file));
             EXPECT(back(file, sizeof file, sizeof old) == 256 && is(&a, old, sizeof old));
+            bounded(__LINE__, file, sizeof file);
         } else {
             old_refused(__LINE__, old, sizeof old, refusal(8, 0));
             refused_by_all(__LINE__, file, sizeof file, refusal(8, 0));
@@ -903,6 +990,7 @@ static void cutting(void)
         cut_table(k);
         cut_ends(k);
         cut_minutes(k);
+        bounded(k->line, P, sizeof P);
         expect(k->line, back(P, sizeof P, sizeof OLD) == 3 && is(&a, OLD, sizeof OLD), "going back cuts nothing");
         expect(k->line, memcmp(kept, withdrawals, withdrawals_length) == 0, "the withdrawal list is as it was");
     }
@@ -923,6 +1011,7 @@ static void left(int line, uint32_t from, uint32_t to, uint32_t w, uint32_t unti
     expect(line, !any || query(file, 26, 0, 1, until - 1, 1) == 1 + 1 * 65536, "the last minute");
     expect(line, query(file, 26, 0, 1, until, 1) == refusal(until == 4294967295u ? 12 : 13, 0), "the minute after");
     expect(line, query(file, 26, 0, 1, to, 1) == (until > to ? 1 + 1 * 65536 : refusal(13, 0)), "`to`");
+    bounded(line, file, 26);
     lend_none();
 }
 
@@ -968,6 +1057,7 @@ static void cut_by_serial(int line, const uint8_t *file, uint32_t serial, size_t
     expect(line, check(file, sizeof P, rtt_role(0, 1), 6, 15, 3) == 2, "a minute earlier it may");
     expect(line, query(file, sizeof P, rtt_role(0, 1), 6, 15, L) == 3 + 2 * 65536 && is_k1(4 * L), "the proof cites positions");
     expect(line, query(file, sizeof P, rtt_role(0, 1), 6, 16, L) == refusal(13, 0), "no proof");
+    bounded(line, file, sizeof P);
     lend_none();
 }
 
@@ -1149,21 +1239,98 @@ static void least_levels(void)
         0, 0, 0, 0, 9, 0, 0, 0,
     };
     static const uint32_t nothing[] = {0, 0}, by[] = {2, 1}, results[] = {2, 2};
+    bounded(__LINE__, file, sizeof file);
     withdraw_one(1, 5);
+    bounded(__LINE__, file, sizeof file);
     EXPECT(query(file, sizeof file, 0, 2, 4, L) == 1 + 1 * 65536 && has(&a, 4 * L, 1, nothing) && has(&d, 4 * L, 1, results));
     EXPECT(query(file, sizeof file, 0, 2, 5, L) == 2 + 2 * 65536);
     EXPECT(has(&a, 4 * L, 2, by) && has(&b, 4 * L, 2, nothing) && has(&c, 4 * L, 2, nothing) && has(&d, 4 * L, 2, results));
     EXPECT(check_left(file, sizeof file, 0, 2, 5, L, 2) == 2);
     EXPECT(check(file, sizeof file, 0, 2, 4, 1) == 1 && check(file, sizeof file, 0, 2, 5, 1) == refusal(15, 0));
     withdraw_one(2, 5);
+    bounded(__LINE__, file, sizeof file);
     EXPECT(query(file, sizeof file, 0, 2, 5, L) == 1 + 1 * 65536);
     withdraw_one(3, 5);
+    bounded(__LINE__, file, sizeof file);
     EXPECT(query(file, sizeof file, 0, 2, 5, L) == 1 + 1 * 65536);
     EXPECT(query(file, sizeof file, 1, 2, 5, L) == refusal(13, 0));
     static const uint32_t both[] = {3, 5, 1, 5};
     withdraw(2, both);
+    bounded(__LINE__, file, sizeof file);
     EXPECT(query(file, sizeof file, 0, 2, 4, L) == 1 + 1 * 65536);
     EXPECT(query(file, sizeof file, 0, 2, 5, L) == refusal(13, 0));
+    lend_none();
+}
+
+/* `count` roles, 0.0, 0.1 and so on to 0.31, then 1.0: each but the last includes the next, and the last has {0}; all from 0 to 9. A role's number is its
+   position, and each level has one membership. */
+static size_t chain(uint8_t *file, unsigned count)
+{
+    memset(file, 0, 6 + 20 * (size_t)count);
+    file[0] = file[2] = 32;
+    file[4] = (uint8_t)count;
+    file[5] = (uint8_t)(count >> 8);
+    for (unsigned i = 0; i < count; i++) {
+        uint8_t *statement = file + 6 + 12 * i;
+        int inclusion = i + 1 < count;
+        statement[0] = inclusion ? 1 : 0;
+        statement[1] = (uint8_t)(i / 32);
+        statement[2] = (uint8_t)(i % 32);
+        statement[3] = inclusion ? (uint8_t)((i + 1) / 32) : 0;
+        statement[4] = inclusion ? (uint8_t)((i + 1) % 32) : 0;
+        statement[8] = (uint8_t)(i + 1);
+        statement[9] = (uint8_t)((i + 1) >> 8);
+        file[6 + 12 * count + 8 * i + 4] = 9;
+    }
+    return 6 + 20 * (size_t)count;
+}
+
+/* Step i is that of the chain's role `top` + `held` - 1 - i, and cites the one before it. */
+static int is_chain(size_t length, uint32_t top, uint32_t held)
+{
+    static uint32_t by[256], cited[256], none[256], results[256];
+    for (uint32_t i = 0; i < held; i++) {
+        by[i] = top + held - 1 - i;
+        cited[i] = i == 0 ? 0 : i - 1;
+        results[i] = 1;
+    }
+    return has(&a, length, held, by) && has(&b, length, held, cited) && has(&c, length, held, none) && has(&d, length, held, results);
+}
+
+/* In a chain the first role's level is the number of memberships: a proof with L that number, and 10 with one less. A withdrawal in the middle leaves the
+   roles after it. */
+static void chains(void)
+{
+    static uint8_t file[RTT_FILE_BYTES];
+    static const uint32_t counts[] = {1, 2, 3, 31, 32, 255, 256};
+    for (size_t i = 0; i < sizeof counts / sizeof *counts; i++) {
+        uint32_t n = counts[i];
+        size_t length = chain(file, n);
+        EXPECT(query(file, length, 0, 1, 9, n) == n + n * 65536u && is_chain(4 * (size_t)n, 0, n));
+        EXPECT(check_left(file, length, 0, 1, 9, n, n) == n);
+        EXPECT(query(file, length, 0, 1, 0, RTT_ENTRIES) == n + n * 65536u && is_chain(4 * RTT_ENTRIES, 0, n));
+        EXPECT(one_less_refused(file, length, 0, 1, 9, n));
+        EXPECT(query(file, length, 0, 1, 10, n) == refusal(13, 0) && all_zero(4 * (size_t)n));
+    }
+    size_t length = chain(file, 31);
+    bounded(__LINE__, file, length);
+    /* Serial 16 is that of role 15, which includes role 16. */
+    withdraw_one(16, 5);
+    EXPECT(query(file, length, 0, 1, 4, 31) == 31 + 31 * 65536 && is_chain(4 * 31, 0, 31));
+    EXPECT(check_left(file, length, 0, 1, 4, 31, 31) == 31 && check_left(file, length, 0, 1, 5, 31, 31) == refusal(15, 15));
+    EXPECT(one_less_refused(file, length, 0, 1, 4, 31));
+    EXPECT(query(file, length, 16, 1, 5, 15) == 15 + 15 * 65536 && is_chain(4 * 15, 16, 15));
+    EXPECT(one_less_refused(file, length, 16, 1, 5, 15));
+    EXPECT(query(file, length, 15, 1, 5, 15) == refusal(13, 0) && all_zero(4 * 15));
+    EXPECT(query(file, length, 0, 1, 5, 15) == refusal(13, 0) && all_zero(4 * 15));
+    bounded(__LINE__, file, length);
+    /* Of 256 roles all but the first. */
+    length = chain(file, 256);
+    withdraw_one(1, 5);
+    EXPECT(query(file, length, 0, 1, 4, 256) == 256 + 256 * 65536 && is_chain(4 * 256, 0, 256));
+    EXPECT(query(file, length, 1, 1, 5, 255) == 255 + 255 * 65536 && is_chain(4 * 255, 1, 255));
+    EXPECT(query(file, length, 0, 1, 5, 255) == refusal(13, 0) && all_zero(4 * 255));
+    EXPECT(one_less_refused(file, length, 1, 1, 5, 255));
     lend_none();
 }
 
@@ -1204,11 +1371,13 @@ static void fewer_ends(void)
     EXPECT(query(file, length, 0, 1, 93, 1) == 1 + 1 * 65536 && check_left(file, length, 0, 1, 93, 1, 1) == 1);
     EXPECT(query(file, length, 0, 1, 96, 1) == refusal(13, 0));
     EXPECT(back(file, length, rtt_back_length(length)) == refusal(8, 0) && untouched(&a));
+    bounded(__LINE__, file, length);
     /* Serial 1 is minute 0, and 3 to 96 stay. */
     for (uint32_t i = 0; i < 64; i++)
         in_ends[i] += 3;
     withdraw_one(1, 0);
     EXPECT(ends(file, length, RTT_ENDS_BYTES) == 64 && has(&a, RTT_ENDS_BYTES, 64, in_ends));
+    bounded(__LINE__, file, length);
     EXPECT(query(file, length, 0, 1, 0, 1) == refusal(13, 0) && query(file, length, 0, 1, 96, 1) == 1 + 1 * 65536);
     EXPECT(check_left(file, length, 0, 1, 96, 1, 1) == 1 && check_left(file, length, 0, 1, 0, 1, 1) == refusal(15, 0));
     withdraw_one(33, 96);
@@ -1251,6 +1420,7 @@ static void more_ends(void)
     static const uint32_t both[] = {33, 92, 32, 93};
     withdraw(2, both);
     EXPECT(ends(file, length, RTT_ENDS_BYTES) == 63);
+    bounded(__LINE__, file, length);
     lend_none();
 }
 
@@ -1282,6 +1452,7 @@ static void longest_list(void)
     EXPECT(query(file, sizeof file, 0, 1, 60, 1) == 1 + 1 * 65536 && check_left(file, sizeof file, 0, 1, 60, 1, 1) == 1);
     EXPECT(query(file, sizeof file, 0, 1, 62, 1) == refusal(13, 0));
     EXPECT(may_release(file, sizeof file, 0, 1, 4) == 1 && may_release(file, sizeof file, 0, 1, 2) == 0);
+    bounded(__LINE__, file, sizeof file);
     /* The last place has the first serial again, then one that is on no credential. */
     pairs[2 * 255] = 256;
     withdraw(256, pairs);
@@ -1298,6 +1469,7 @@ static void longest_list(void)
     EXPECT(ends(file, sizeof file, RTT_ENDS_BYTES) == 0 && zero(&a, RTT_ENDS_BYTES));
     EXPECT(query(file, sizeof file, 0, 1, 0, 1) == refusal(13, 0));
     lend_none();
+    bounded(__LINE__, file, sizeof file);
     EXPECT(query(file, sizeof file, 0, 1, 0, 1) == 1 + 1 * 65536);
     withdraw(256, pairs);
     EXPECT(check_left(file, sizeof file, 0, 1, 0, 1, 1) == refusal(15, 0));
@@ -1339,6 +1511,7 @@ static void of_p(void)
     listing_ends();
     listing_intervals();
     releasing();
+    bounded(__LINE__, P, sizeof P);
 }
 
 static void without_effect(void)
@@ -1381,6 +1554,7 @@ int main(void)
     after_the_list();
     with_another_list();
     least_levels();
+    chains();
     fewer_ends();
     more_ends();
     longest_list();

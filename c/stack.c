@@ -11,8 +11,8 @@
    is refused with 21.
 
    Each call runs on a stack of its own that was filled with a pattern. Prints the most bytes that each call wrote there,
-   and what the header gives. Fails where that is less, where it is more than RTT_STACK, and where another number is
-   answered. */
+   and what the header gives. Fails where that is less, where it is more than RTT_STACK, where querying takes more than
+   RTT_QUERY_STACK, and where another number is answered. */
 #include <inttypes.h>
 #include <stdio.h>
 #include <stdlib.h>
@@ -188,5 +188,6 @@ int main(int count, char **argument)
         printf("%s %zu of %zu\n", names[name], most[name], given);
         bad |= most[name] > given || given > RTT_STACK;
     }
+    bad |= most[QUERY] > RTT_QUERY_STACK;
     return bad;
 }

@@ -169,21 +169,36 @@ extern "C" {
 
 /* The version of this interface; the pkg-config file and the manual pages take it from here. The number is
    major * 10,000 + minor * 100 + patch. */
-#define RTT_VERSION "4.0.0"
-#define RTT_VERSION_NUMBER 40000
+#define RTT_VERSION "4.1.0"
+#define RTT_VERSION_NUMBER 40100
 
 /* Bytes of stack that are enough for any call, beside what the caller itself uses. Measured, no call takes more than
 
-     rtt_complete   81,000 bytes
-     rtt_query      81,000 bytes
+     rtt_complete   78,000 bytes
+     rtt_query      57,000 bytes
      rtt_check      30,000 bytes
      rtt_ends        5,000 bytes
      rtt_intervals   5,000 bytes
      rtt_forward    15,000 bytes
      rtt_back        5,000 bytes
 
-   which is rounded up to the next thousand. */
+   which is rounded up to the next thousand. One rtt_query, by part:
+
+     memberships found: role and set                   8,192
+       how each came about, three 16-bit words         6,144
+       looked up by role and set                       6,144
+       listed by role                                  4,096
+       at the minute or not, and which have given     16,384
+     credentials other than sets, by what they use    14,404
+     sets that wait to be given to several roles         776
+     frames                                              749
+
+   and while the file is judged, in the room of what comes later, 4,096 for its credentials. A level is in none of them: it is
+   counted when the membership is found. */
 #define RTT_STACK 81920
+
+/* Bytes of stack that are enough for rtt_query, for a server that runs many queries at a time. */
+#define RTT_QUERY_STACK 57000
 
 /* The bytes of the longest file. A longer one is refused, also where only RTT_FILE_BYTES + 1 bytes of it were read. */
 #define RTT_FILE_BYTES 5126

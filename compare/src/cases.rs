@@ -5,7 +5,7 @@ use crate::calls::Call;
 use crate::carried::{carried_old, opened};
 use crate::explore::{completed, handed_out, queried};
 use crate::files::{Draft, Period};
-use crate::input::{Ends, Forward, Intervals};
+use crate::input::{Ends, Forward, Intervals, Source};
 use crate::judge::{known, Compared, Comparison, Failure};
 use crate::random::Random;
 use crate::reference::ends::{listed, BYTES};
@@ -13,7 +13,7 @@ use crate::reference::known::{Known, Question};
 use crate::reference::old::OLD;
 use crate::reference::reading::word;
 use crate::reference::withdrawals::NONE;
-use crate::reference::Refusal;
+use crate::reference::{Refusal, MOST};
 use crate::withdrawn_cases;
 
 /// The bytes of set P as document 01 prints them, with a serial after each statement: 66.
@@ -124,9 +124,53 @@ pub fn run(c: &mut Comparison, random: &mut Random, count: usize) -> Compared<()
         }
         ends_of_cases(c, random)?;
         old_cases(c, random)?;
+        chains(c, random)?;
         withdrawn_cases::run(c, random)?;
     }
     Ok(())
+}
+
+/// So many roles, of which the first has {0} and each other one includes the one before it, in 0..9.
+pub fn chain(length: u32) -> Draft {
+    let mut draft = Draft::new(2, 32);
+    draft.fact(0, 0, (0, 9));
+    (1..length).for_each(|role| draft.include(role, role - 1, (0, 9)));
+    draft
+}
+
+/// Request Five's bound is reached: each level has one membership, so that the last role's level is their number. With L that number there is a
+/// proof of as many steps, with L one less 10.
+fn chains(c: &mut Comparison, random: &Random) -> Compared<()> {
+    let random = &mut random.clone();
+    for length in [1, 2, 3, 16, 32] {
+        let file = chain(length as u32).bytes();
+        let known = opened(c, random, &file)?;
+        let last = Question { role: length as u32 - 1, set: 1, minute: 9 };
+        at_most(c, random, &file, &known, last, length)?;
+        expect(c.query(&known, queried(&file, Question { minute: 10, ..last }, length, random.next()))?.is_none(), "a chain after its minutes")?;
+    }
+    Ok(())
+}
+
+/// A chain's last membership: its level and its steps are the number of memberships at the minute, which is the least L.
+pub fn at_most<'a>(
+    c: &mut Comparison,
+    random: &mut Random,
+    source: impl Into<Source<'a>>,
+    known: &Known,
+    last: Question,
+    held: usize,
+) -> Compared<()> {
+    let source = source.into();
+    for length in [held, held + 1, MOST] {
+        let given = c.query(known, queried(source, last, length, random.next()))?;
+        expect(given.as_ref().map(|proof| (proof.level, proof.steps.len())) == Some((held, held)), "a level equal to the number of memberships")?;
+        handed_out(c, source, known, last, &given.unwrap(), length, random.next())?;
+    }
+    let number = if held > 1 { 10 } else { 9 };
+    let refused = known.query(last, [4 * (held - 1); 4]).map_err(|(refusal, _)| refusal);
+    expect(refused == Err(Refusal { number, place: 0 }), "one membership more than entries")?;
+    c.query(known, queried(source, last, held - 1, random.next())).map(|_| ())
 }
 
 /// Set P's bytes before and after the way forward; the tables and the ends that document 01 first states of P, K8 and K11; K1 to K4 of P.

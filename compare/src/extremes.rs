@@ -85,6 +85,55 @@ pub fn ring(random: &mut Random, sets: u32, roles: u32) -> Draft {
     draft
 }
 
+/// The greatest least level that 1,024 memberships and 256 credentials allow, 1,022, with 215 credentials; the memberships are 1,024, and the deepest rests
+/// on all of them. No file has more: 256 heads have at most 768 memberships of the three sets of two entities, so that more of them need three
+/// entities, which are three memberships of level 1.
+///
+/// {0}, {1}, {2}, {0, 1} and {0, 1, 2} pass through the roles of a line one after the other. At its end {0} and {1} each give the next set by a
+/// link, {2} opens the way to {0, 1}, which is let through once more for {0, 1, 2}.
+pub fn deepest(random: &mut Random) -> Draft {
+    let mut draft = Draft::new(32, 32);
+    let mut free: Vec<u32> = (0..32 * 32).filter(|role| role % 32 > 1).collect();
+    random.shuffle(&mut free);
+    let (line, rest) = free.split_at(203);
+    let (start, one, two) = (role(2, 1), role(0, 0), role(1, 0));
+    let &[second, third, opened, both, again, all, ..] = rest else { unreachable!() };
+    draft.fact(start, 0, WHOLE);
+    draft.fact(one, 1, WHOLE);
+    draft.fact(two, 2, WHOLE);
+    draft.include(second, start, WHOLE);
+    draft.include(third, second, WHOLE);
+    draft.include(line[0], third, WHOLE);
+    line.windows(2).for_each(|pair| draft.include(pair[1], pair[0], WHOLE));
+    draft.link(line[0], line[202], 0, WHOLE);
+    draft.link(opened, line[202], 1, WHOLE);
+    draft.pair(4, both, opened, one, WHOLE);
+    draft.include(line[0], both, WHOLE);
+    draft.pair(3, again, line[202], both, WHOLE);
+    draft.pair(4, all, again, two, WHOLE);
+    draft.include(line[0], all, WHOLE);
+    match random.below(3) {
+        0 => {}
+        1 => draft.credentials.reverse(),
+        _ => random.shuffle(&mut draft.credentials),
+    }
+    draft
+}
+
+/// A chain of 256 roles, each of which includes the one before it: the greatest level that is the number of memberships. Each level then has one
+/// membership, level 1 too, so that there is one set, and no more memberships than heads.
+pub fn inclusions(random: &mut Random) -> Draft {
+    let mut draft = Draft::new(32, 32);
+    let mut free: Vec<u32> = (0..32 * 32).collect();
+    random.shuffle(&mut free);
+    draft.fact(free[0], random.below(32) as u32, WHOLE);
+    free[..256].windows(2).for_each(|pair| draft.include(pair[1], pair[0], WHOLE));
+    if random.once_in(2) {
+        draft.credentials.reverse();
+    }
+    draft
+}
+
 /// A chain in which each role has one set, given by a random kind from the role before it.
 pub fn chain(random: &mut Random, length: usize) -> Draft {
     let mut draft = Draft::new(32, 32);

@@ -26,6 +26,8 @@ pub struct Counts {
     pub effects: [[u64; Effect::ALL.len()]; Call::ALL.len()],
     pub longest: u64,
     pub deepest: u64,
+    /// Queries whose level is the number of memberships at the minute: with a withdrawal list of count 0, and with another.
+    pub reached: [u64; 2],
 }
 
 /// By these the list of count 0 lies in two places: against the unreadable page after it, and at an odd address.
@@ -162,7 +164,9 @@ impl<'a> Comparison<'a> {
         let now = [0, 1, 2, 3].map(|i| self.lists[i].now());
         let steps = steps(&now, count);
         let file = known.read.as_ref().expect("an accepted file");
-        if let Err(why) = querying::judge(&RIGHT, file, q.membership(), q.minute, least, level, &steps) {
+        let Members::Levels(levels) = &*known.members(q.minute) else { unreachable!("a proof was expected") };
+        let bounded = querying::bounded(file, levels.len(), length, level, &steps);
+        if let Err(why) = bounded.and_then(|_| querying::judge(&RIGHT, file, q.membership(), q.minute, least, level, &steps)) {
             return Err(self.failure(input, format!("reply {}: {why}; steps {steps:?}", shown(input, reply))));
         }
         // The words of the steps, then zeros.
@@ -174,6 +178,7 @@ impl<'a> Comparison<'a> {
         self.lent(input, &held)?;
         self.counts.longest = self.counts.longest.max(count as u64);
         self.counts.deepest = self.counts.deepest.max(level as u64);
+        self.counts.reached[(known.effect() != Effect::None) as usize] += (level == levels.len()) as u64;
         Ok(Proof { steps, level })
     }
 

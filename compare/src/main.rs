@@ -216,10 +216,13 @@ fn summary(counts: &Counts) {
     }
     if counts.longest > 0 {
         println!("longest proof {} steps, greatest least level {}", counts.longest, counts.deepest);
+        let [none, some] = counts.reached;
+        println!("level equal to the number of memberships at the minute: {none} queries without withdrawals, {some} with some");
     }
 }
 
-/// A whole run meets every refusal of every call, and gives each that takes one withdrawal lists of every effect, or its inputs are not what they should be.
+/// A whole run meets every refusal of every call, gives each that takes one withdrawal lists of every effect, and has levels that reach the number of
+/// memberships, with withdrawals and without, or its inputs are not what they should be.
 fn covered(subject: &dyn Calls, counts: &Counts) {
     for call in Call::ALL.into_iter().filter(|&call| subject.has(call)) {
         let last: &[u32] = match call {
@@ -236,6 +239,10 @@ fn covered(subject: &dyn Calls, counts: &Counts) {
                 println!("FAILED: no input made {} reply with {number}", call.name());
                 exit(1);
             }
+        }
+        if call == Call::Query && counts.reached.contains(&0) {
+            println!("FAILED: no input had a level equal to the number of memberships, with withdrawals or without");
+            exit(1);
         }
         let takes_list = !matches!(call, Call::Forward | Call::Back);
         for (effect, what) in Effect::ALL.into_iter().filter(|_| takes_list) {

@@ -1,6 +1,6 @@
-//! Withdrawal lists whose results are worked out by hand from request Four of document 02.
+//! Withdrawal lists whose results are worked out by hand from requests Four and Five of document 02.
 
-use crate::cases::{bytes, expect, set_p, Rows};
+use crate::cases::{at_most, bytes, chain, expect, set_p, Rows};
 use crate::explore::{checked, completed, handed_out, queried};
 use crate::files::{between, Draft};
 use crate::input::{Complete, Ends, Intervals, Query, Source};
@@ -17,6 +17,7 @@ pub fn run(c: &mut Comparison, random: &Random) -> Compared<()> {
     let random = &mut random.clone();
     set_p_withdrawn(c, random)?;
     deeper(c, random)?;
+    chain_cut(c, random)?;
     refused_lists(c, random)?;
     refused_files(c, random)?;
     over_64(c, random)?;
@@ -102,6 +103,23 @@ fn deeper(c: &mut Comparison, random: &mut Random) -> Compared<()> {
         c.check(&known, checked(source, question, &[step(1, 0, 0, 4), step(0, 0, 0, 4)], 2, random.next()))?;
     }
     Ok(())
+}
+
+/// A chain of 16 roles without the ninth's credential from minute 5: before it the last role's level is 16, the number of memberships; from it on
+/// the eighth's is 8, likewise, and the roles above it have nothing. Without the first credential nothing is left.
+fn chain_cut(c: &mut Comparison, random: &mut Random) -> Compared<()> {
+    let (file, middle, first) = (chain(16).bytes(), list(&[(9, 5)]), list(&[(1, 5)]));
+    c.counted();
+    let [cut, emptied] = [&middle, &first].map(|withdrawals| Source { file: &file, withdrawals });
+    let [known_cut, known_emptied] = [cut, emptied].map(known);
+    let held = |role: u32, minute: u32| Question { role, set: 1, minute };
+    at_most(c, random, cut, &known_cut, held(15, 4), 16)?;
+    at_most(c, random, cut, &known_cut, held(7, 5), 8)?;
+    for role in 8..16 {
+        expect(c.query(&known_cut, queried(cut, held(role, 5), 8, random.next()))?.is_none(), "a chain above the withdrawal")?;
+    }
+    at_most(c, random, emptied, &known_emptied, held(15, 4), 16)?;
+    expect(c.query(&known_emptied, queried(emptied, held(0, 5), 1, random.next()))?.is_none(), "a chain without its first")
 }
 
 /// The calls on a file and a list that give this refusal, alone and with every other argument out of its limits too.

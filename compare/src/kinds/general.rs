@@ -123,9 +123,11 @@ pub fn full(c: &mut Comparison, random: &mut Random, count: usize) -> Compared<(
 
 pub fn deep(c: &mut Comparison, random: &mut Random, count: usize) -> Compared<()> {
     for i in 0..count {
-        let draft = match i % 4 {
-            0 => ring(random, 32, 31),
-            1 => chain(random, 255),
+        let draft = match i % 6 {
+            0 => deepest(random),
+            1 => ring(random, 32, 31),
+            2 => chain(random, 255),
+            3 => inclusions(random),
             _ => {
                 let sets = random.within(12, 31) as u32;
                 ring(random, sets, 29)
@@ -137,11 +139,15 @@ pub fn deep(c: &mut Comparison, random: &mut Random, count: usize) -> Compared<(
         let Members::Levels(levels) = &*known.members(0) else { continue };
         let mut by_level: Vec<(usize, (u32, u32))> = levels.iter().map(|(&m, &level)| (level, m)).collect();
         by_level.sort();
+        let greatest = (by_level[by_level.len() - 1].0, by_level.len());
+        assert!(i % 6 != 0 || greatest == (1022, MOST));
+        assert!(i % 6 != 3 || greatest == (256, 256));
         // The deepest, and some others.
         for i in 0..6 {
             let (_, (role, set)) = by_level[if i == 0 { by_level.len() - 1 } else { random.below(by_level.len()) }];
             let question = Question { role, set, minute: random.choose(&[0, 1, u32::MAX - 1]) };
             let length = random.choose(&[levels.len(), MOST]);
+            c.query(&known, queried(&file, question, levels.len() - 1, random.next()))?;
             let Some(proof) = c.query(&known, queried(&file, question, length, random.next()))? else { continue };
             handed_out(c, &file, &known, question, &proof, length, random.next())?;
             checked_withdrawn(c, random, &file, question, &proof.steps)?;

@@ -1,4 +1,4 @@
-//! A second implementation of the calls of document 01, written from documents 01, 02 (requests One to Four) and 003 and not from the library.
+//! A second implementation of the calls of document 01, written from documents 01, 02 (requests One to Five) and 003 and not from the library.
 //! It is as slow and as plain as it can be: every minute's memberships are Definition 3's sequence from nothing.
 
 pub mod carrying;

@@ -1,4 +1,4 @@
-//! Document 01's demands on the proof that querying hands out, and one proof that meets them.
+//! Document 01's demands on the proof that querying hands out, request Five's of document 02, and one proof that meets them.
 
 use super::checking::{all_shown, Step};
 use super::meaning::valid;
@@ -28,6 +28,25 @@ pub fn judge(rules: &Rules, file: &File, of: Membership, minute: u32, least: usi
     }
     match resting(file, steps).iter().position(|&rested| !rested) {
         Some(place) => Err(format!("the last step does not rest on step {place}")),
+        None => Ok(()),
+    }
+}
+
+/// Document 02, request Five: the level is at most the number of memberships at the minute, which is at most L; every cited step is below the step
+/// count, and every credential below the file's count. If not, why.
+pub fn bounded(file: &File, held: usize, length: usize, level: usize, steps: &[Step]) -> Result<(), String> {
+    if held > length {
+        return Err(format!("{held} memberships at the minute, {length} entries"));
+    }
+    if level > held {
+        return Err(format!("level {level} returned, {held} memberships at the minute"));
+    }
+    let beyond = |step: &Step| {
+        let cited = [step.first, step.second].iter().any(|&place| place as usize >= steps.len());
+        cited || step.credential as usize >= file.credentials.len()
+    };
+    match steps.iter().position(beyond) {
+        Some(place) => Err(format!("step {place} cites a step not below {} or names a credential not below {}", steps.len(), file.credentials.len())),
         None => Ok(()),
     }
 }

@@ -34,6 +34,22 @@ pub const ALL: &[Wrong] = &[
     check("idle-refused", |s, f, q, l, n| demanding(s, f, q, l, n, "the last step does not rest"), "idle steps refused"),
     check("twice-refused", |s, f, q, l, n| demanding(s, f, q, l, n, "a membership is shown twice"), "a membership shown twice refused"),
     check("not-least-refused", |s, f, q, l, n| demanding(s, f, q, l, n, "level"), "a level above the least refused"),
+    check(
+        "first-16-bits",
+        |s, f, q, l, n| words_cut(s, f, q, l, n, |step| Step { first: step.first % 65_536, ..step }),
+        "the first cited step's low 16 bits in the checker",
+    ),
+    check(
+        "second-16-bits",
+        |s, f, q, l, n| words_cut(s, f, q, l, n, |step| Step { second: step.second % 65_536, ..step }),
+        "the second cited step's low 16 bits in the checker",
+    ),
+    check(
+        "credential-16-bits",
+        |s, f, q, l, n| words_cut(s, f, q, l, n, |step| Step { credential: step.credential % 65_536, ..step }),
+        "the credential's low 16 bits in the checker",
+    ),
+    check("checker-level-8-bits", |s, f, q, l, n| on(s.check(f, q, l, n), &[0], |level| level % 256), "the level's low 8 bits in the checker"),
     check("checker-clears", checker_clears, "lists cleared after 15"),
 ];
 
@@ -119,6 +135,11 @@ fn second_word_untested(second: &Second, given: Given, q: Question, lists: [Slic
         }
     }
     instead(second, given, q, &steps)
+}
+
+fn words_cut(second: &Second, given: Given, q: Question, lists: [Slice; 4], count: u64, cut: fn(Step) -> Step) -> u64 {
+    let Some(steps) = reads(second, given, q, lists, count) else { return second.check(given, q, lists, count) };
+    instead(second, given, q, &steps.into_iter().map(cut).collect::<Vec<_>>())
 }
 
 fn no_steps_pass(second: &Second, given: Given, q: Question, lists: [Slice; 4], count: u64) -> u64 {

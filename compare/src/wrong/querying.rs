@@ -13,6 +13,15 @@ use std::collections::BTreeMap;
 pub const ALL: &[Wrong] = &[
     query("level-one-too-high", |s, f, q, l| on(s.query(f, q, l), &[0], |reply| reply + 65_536), "a level one too high"),
     query("level-one-too-low", |s, f, q, l| on(s.query(f, q, l), &[0], |reply| reply - 65_536), "a level one too low"),
+    query("level-of-another", level_of_another, "the level of the next entry of the table at the minute"),
+    query("level-of-the-first", level_of_the_first, "the level of the first entry of the table at the minute"),
+    query("memberships-as-level", |s, f, q, l| leveled(s, f, q, l, |levels, _| levels.len()), "the number of memberships as level"),
+    query("level-above-memberships", |s, f, q, l| leveled(s, f, q, l, |levels, _| levels.len() + 1), "one more than the memberships as level"),
+    query("steps-as-level", |s, f, q, l| on(s.query(f, q, l), &[0], |reply| reply % 65_536 * 65_537), "the step count as level"),
+    query("level-8-bits", |s, f, q, l| leveled(s, f, q, l, |_, level| level % 256), "the level's low 8 bits"),
+    query("level-9-bits", |s, f, q, l| leveled(s, f, q, l, |_, level| level % 512), "the level's low 9 bits"),
+    query("level-up-to-255", |s, f, q, l| leveled(s, f, q, l, |_, level| level.min(255)), "a level above 255 given as 255"),
+    query("level-up-to-1000", |s, f, q, l| leveled(s, f, q, l, |_, level| level.min(1000)), "a level above 1,000 given as 1,000"),
     query("not-least", not_least, "a proof of the first derivations found in file order, not of least level"),
     query("thirteen-early", thirteen_early, "13 before deeper levels"),
     query("role-unchanged", role_unchanged, "13 when a round changed nothing for the queried role"),
@@ -26,6 +35,24 @@ pub const ALL: &[Wrong] = &[
     query("first-step-only", |s, f, q, l| rewritten(s, f, q, l, |_, _, own| own[..1].to_vec()), "another membership shown last"),
     query("second-word-left", |s, f, q, l| rewritten(s, f, q, l, second_word_left), "second word not zero in kind 1"),
     query("citations-exchanged", |s, f, q, l| rewritten(s, f, q, l, citations_exchanged), "the two citations exchanged"),
+    query("last-citations-exchanged", |s, f, q, l| rewritten(s, f, q, l, last_exchanged), "the two citations of the last step exchanged"),
+    query("first-plus-65536", |s, f, q, l| rewritten(s, f, q, l, |f, _, own| cited(f, own, |i| i + 65_536, |i| i)), "first cited step plus 65,536"),
+    query("second-plus-65536", |s, f, q, l| rewritten(s, f, q, l, |f, _, own| cited(f, own, |i| i, |i| i + 65_536)), "second cited step plus 65,536"),
+    query(
+        "last-first-plus-65536",
+        |s, f, q, l| rewritten(s, f, q, l, |f, _, own| in_last(own, cited(f, own, |i| i + 65_536, |i| i))),
+        "first cited step plus 65,536 in the last step alone",
+    ),
+    query(
+        "last-second-plus-65536",
+        |s, f, q, l| rewritten(s, f, q, l, |f, _, own| in_last(own, cited(f, own, |i| i, |i| i + 65_536))),
+        "second cited step plus 65,536 in the last step alone",
+    ),
+    query("uncited-65536", |s, f, q, l| rewritten(s, f, q, l, uncited), "65,536 where no step is cited"),
+    query("credential-plus-65536", |s, f, q, l| rewritten(s, f, q, l, credential_plus), "the credential plus 65,536"),
+    query("cited-8-bits", |s, f, q, l| rewritten(s, f, q, l, |f, _, own| cited(f, own, |i| i % 256, |i| i % 256)), "a cited step's low 8 bits"),
+    query("cited-9-bits", |s, f, q, l| rewritten(s, f, q, l, |f, _, own| cited(f, own, |i| i % 512, |i| i % 512)), "a cited step's low 9 bits"),
+    query("cited-from-one", |s, f, q, l| rewritten(s, f, q, l, |f, _, own| cited(f, own, |i| i + 1, |i| i + 1)), "cited steps counted from 1"),
     query("query-tail-left", query_tail_left, "entries after the proof left"),
     query("steps-and-level-exchanged", |s, f, q, l| on(s.query(f, q, l), &[0], exchanged), "steps × 65,536 + level"),
     query("twelve-before-eleven", twelve_before_eleven, "12 before 11"),
@@ -146,6 +173,31 @@ fn levels(given: Given, minute: u32) -> Option<BTreeMap<Membership, usize>> {
     }
 }
 
+/// The right call with another level, by the levels at the minute and the right one.
+fn leveled(second: &Second, given: Given, q: Question, lists: [Slice; 4], level: fn(&BTreeMap<Membership, usize>, usize) -> usize) -> u64 {
+    let reply = second.query(given, q, lists);
+    if number(reply) != 0 {
+        return reply;
+    }
+    let levels = levels(given, q.minute).unwrap();
+    reply % 65_536 + level(&levels, reply as usize / 65_536) as u64 * 65_536
+}
+
+/// The next entry's; of the last entry, its own.
+fn level_of_another(second: &Second, given: Given, q: Question, lists: [Slice; 4]) -> u64 {
+    let reply = second.query(given, q, lists);
+    if number(reply) != 0 {
+        return reply;
+    }
+    let levels = levels(given, q.minute).unwrap();
+    let next = levels.range(q.membership()..).nth(1).map_or(reply / 65_536, |(_, &level)| level as u64);
+    reply % 65_536 + next * 65_536
+}
+
+fn level_of_the_first(second: &Second, given: Given, q: Question, lists: [Slice; 4]) -> u64 {
+    leveled(second, given, q, lists, |levels, _| *levels.values().next().unwrap())
+}
+
 fn role_unchanged(second: &Second, given: Given, q: Question, lists: [Slice; 4]) -> u64 {
     let reply = second.query(given, q, lists);
     if number(reply) != 0 {
@@ -243,6 +295,47 @@ fn second_word_left(file: &File, _: u32, own: &[Step]) -> Vec<Step> {
 
 fn citations_exchanged(_: &File, _: u32, own: &[Step]) -> Vec<Step> {
     own.iter().map(|&step| Step { first: step.second, second: step.first, ..step }).collect()
+}
+
+fn last_exchanged(file: &File, minute: u32, own: &[Step]) -> Vec<Step> {
+    in_last(own, citations_exchanged(file, minute, own))
+}
+
+/// The steps, the last one as it is changed.
+fn in_last(own: &[Step], changed: Vec<Step>) -> Vec<Step> {
+    [&own[..own.len() - 1], &changed[own.len() - 1..]].concat()
+}
+
+/// How many steps a step cites.
+fn cites(file: &File, step: &Step) -> usize {
+    match file.credentials[step.credential as usize].body {
+        Body::Entity(_) => 0,
+        Body::Role(_) => 1,
+        Body::Linked(..) | Body::Pair(..) => 2,
+    }
+}
+
+/// The steps with the cited ones changed.
+fn cited(file: &File, own: &[Step], first: fn(u32) -> u32, second: fn(u32) -> u32) -> Vec<Step> {
+    let changed = |step: &Step| match cites(file, step) {
+        0 => *step,
+        1 => Step { first: first(step.first), ..*step },
+        _ => Step { first: first(step.first), second: second(step.second), ..*step },
+    };
+    own.iter().map(changed).collect()
+}
+
+fn uncited(file: &File, _: u32, own: &[Step]) -> Vec<Step> {
+    let changed = |step: &Step| match cites(file, step) {
+        0 => Step { first: 65_536, second: 65_536, ..*step },
+        1 => Step { second: 65_536, ..*step },
+        _ => *step,
+    };
+    own.iter().map(changed).collect()
+}
+
+fn credential_plus(_: &File, _: u32, own: &[Step]) -> Vec<Step> {
+    own.iter().map(|&step| Step { credential: step.credential + 65_536, ..step }).collect()
 }
 
 fn query_tail_left(second: &Second, given: Given, q: Question, lists: [Slice; 4]) -> u64 {

@@ -4,11 +4,10 @@ use mathlib.Core.Bool.{Bool, true}
 use mathlib.Core.Logic.{inl, inr}
 use mathlib.Core.List.{List, [], map}
 use Prim.Native.Nat.{ℕ, zero, suc, _-_, _≤_, _<_, max}
-use native.Mathlib.Nat.{le-refl}
 use native.Mathlib.Omega.{arith}
 use borrow.Author.Tests.{lt-ltb}
 use lib.Dec.{T, ltb}
-use lib.ListN.{length, getD, take, length-map}
+use lib.ListN.{length, getD, length-map}
 use lib.Seq.{ext-getD}
 use Rattle.meaning.specs.Lists.{if, below}
 use Rattle.meaning.specs.Credentials.{Body, Credential, credentialAt}
@@ -17,15 +16,18 @@ use Rattle.meaning.specs.Proofs.{Step, Shown, nothing, citesFirst, citesSecond,
 use Rattle.store.specs.Entries.{keyOf, roleIn, setIn}
 use Rattle.store.proofs.Keys.{key-of-parts}
 use Rattle.file.proofs.Credentials.{getD-map-lt}
-use Rattle.derivation.specs.HandedOut.{membershipAt, HandedOut, words}
+use Rattle.derivation.specs.HandedOut.{membershipAt, HandedOut}
 use Rattle.derivation.specs.Derivation.{Citable, firstBy, secondBy, StepHolds, stepOf, shownOf, Derived, Derivation}
 use Rattle.store.specs.Notes.{word, levelOf}
 use Rattle.derivation.proofs.Positions.{map-below-length, map-below-at, steps-keep, proof-to}
-use Rattle.answering.specs.Answering.{Citing, Answered}
+use Rattle.answering.specs.Answering.{Citing}
 use Rattle.answering.specs.Marks.{Cites, Rests, itself, byCited, Marked}
-use Rattle.answering.specs.Steps.{kept, number, citedStep, stepFrom, stepsBelow, Held, upTo}
-use Rattle.answering.proofs.Numbering.{number-fits, number-more, number-below, entry-at-number, At, at-place}
-use Rattle.answering.proofs.Writing.{steps-length}
+use Rattle.answering.specs.Steps.{kept, number, citedStep, stepFrom, stepsBelow}
+use Rattle.answering.proofs.Numbering.{number-more, number-below, entry-at-number, At, at-place}
+
+steps-length : (keys notes marks : List ℕ) (i : ℕ) → length (stepsBelow keys notes marks i) ≡ number marks i
+unfolding stepsBelow
+steps-length keys notes marks i = length-map (kept marks i) (stepFrom keys notes marks)
 
 map-by-place : (f : ℕ → Step) (d : Step) (l : List ℕ) → map f l ≡ map (λ (p : ℕ). f (getD l p 0)) (below (length l))
 map-by-place f d l =
@@ -174,28 +176,3 @@ module _ (cs : List Credential) (m : ℕ) (keys notes : List ℕ) (n x : ℕ) (m
 
   pub handed-out : HandedOut cs m (roleIn (getD keys x 0)) (setIn (getD keys x 0)) (levelOf notes x) steps
   handed-out = record { proof = proof; once = once; needed = needed }
-
--- ---- the lists, with zeros after the steps
-
-words-of : (field : Step → ℕ) (ss : List Step) (l l′ : List ℕ) (k size : ℕ) → k ≡ length ss → length l ≡ size → take k l ≡ map field ss → l′ ≡ upTo k l → l′ ≡ words field size ss
-words-of field ss l l′ k size c n e p = p ∙ rw (e, n, c) refl
-
-pub held-fits : (keys notes marks : List ℕ) (x : ℕ) {credential first second sets : List ℕ} {r : ℕ} → Held (stepsBelow keys notes marks (suc x)) credential first second sets r → r ≤ suc x
-held-fits keys notes marks x h = omega (arith, h .size, steps-length keys notes marks (suc x), number-fits marks (suc x))
-
-pub answered : (keys notes : List ℕ) (x size : ℕ) (marks : List ℕ) {credential first second sets credential′ first′ second′ sets′ : List ℕ} {r : ℕ} → Citing notes (suc x) → Marked notes x 0 marks
-    → Held (stepsBelow keys notes marks (suc x)) credential first second sets r
-    → length credential ≡ size → length first ≡ size → length second ≡ size → length sets ≡ size
-    → credential′ ≡ upTo r credential → first′ ≡ upTo r first → second′ ≡ upTo r second → sets′ ≡ upTo r sets
-    → Answered keys notes x size credential′ first′ second′ sets′ r
-answered keys notes x size marks {credential} {first} {second} {sets} {credential′} {first′} {second′} {sets′} {r} cites g h a b c d p q s t =
-    record {
-      steps = stepsBelow keys notes marks (suc x);
-      count = h .size;
-      few = held-fits keys notes marks x h;
-      byCredential = words-of (λ (s : Step). s .credential) (stepsBelow keys notes marks (suc x)) credential credential′ r size (h .size) a (h .byCredential) p;
-      byFirst = words-of (λ (s : Step). s .first) (stepsBelow keys notes marks (suc x)) first first′ r size (h .size) b (h .byFirst) q;
-      bySecond = words-of (λ (s : Step). s .second) (stepsBelow keys notes marks (suc x)) second second′ r size (h .size) c (h .bySecond) s;
-      bySet = words-of (λ (s : Step). s .set) (stepsBelow keys notes marks (suc x)) sets sets′ r size (h .size) d (h .bySet) t;
-      handed = λ cs m D. handed-out cs m keys notes (suc x) x marks D g (le-refl (suc x)) cites;
-    }

@@ -1,4 +1,5 @@
 pub mod Marking
 pub mod Numbering
-pub mod Writing
 pub mod Handing
+pub mod Keeping
+pub mod Writing

@@ -2,12 +2,13 @@
 use mathlib.Core.Path.{_≡_, refl, sym, ap, _∙_, subst, subst⁻¹}
 use mathlib.Core.Bool.{Bool, true, false}
 use mathlib.Core.Logic.{_⊎_, inl, inr}
-use mathlib.Core.List.{List}
-use Prim.Native.Nat.{ℕ, zero, suc, _-_, _≤_, _<_}
+use mathlib.Core.List.{List, [], _∷_}
+use Prim.Native.Nat.{ℕ, zero, suc, _+_, _-_, _≤_, _<_}
+use native.Mathlib.Numerals.{add-one}
 use native.Mathlib.Omega.{arith}
 use borrow.Author.Tests.{lt-ltb, le-ltb, ltb-true, ltb-false}
 use lib.Dec.{ltb}
-use lib.ListN.{length, getD, set, replicate, length-set, length-replicate}
+use lib.ListN.{length, getD, set, drop, replicate, length-set, length-replicate}
 use lib.Seq.{getD-set-same, getD-set-other}
 use Rattle.meaning.specs.Lists.{if}
 use Rattle.meaning.proofs.ListLaws.{zeros-at}
@@ -133,13 +134,43 @@ marked-turn notes x i marks marks′ before small some h g e =
 pub marked-all : {notes : List ℕ} {x i : ℕ} {marks : List ℕ} → i ≤ 0 → Marked notes x i marks → Marked notes x 0 marks
 marked-all {notes} {x} {i} {marks} h g = let e : i ≡ 0 = omega arith in subst (λ (j : ℕ). Marked notes x j marks) e g
 
-pub spread-taken : (notes : List ℕ) (i : ℕ) (marks once twice : List ℕ) (w v : ℕ) → 0 < getD marks i 0 → w ≡ word notes i 1 → once ≡ markedBy w marks → v ≡ word notes i 2 → twice ≡ markedBy v once → twice ≡ spreadBy notes i marks
-unfolding spreadBy
-spread-taken notes i marks once twice w v h a p b q = rw (lt-ltb 0 (getD marks i 0) h, ← a, ← b, q, p)
+-- ---- marks in a list whose place 0 is for words that cite nothing
 
-pub spread-left : (notes : List ℕ) (i : ℕ) (marks : List ℕ) → getD marks i 0 ≤ 0 → marks ≡ spreadBy notes i marks
+pub shifted : (l : List ℕ) (j : ℕ) → getD (drop 1 l) j 0 ≡ getD l (suc j) 0
+shifted [] j = refl
+shifted (y ∷ l) j = refl
+
+-- what stands at place 0 is no mark
+pub shifted-first : (l : List ℕ) (v : ℕ) → drop 1 (set l 0 v) ≡ drop 1 l
+shifted-first [] v = refl
+shifted-first (y ∷ l) v = refl
+
+pub shifted-length : (l : List ℕ) (n : ℕ) → length (drop 1 l) ≡ suc n → length l ≡ suc (suc n)
+shifted-length [] n e = absurd (omega arith)
+shifted-length (y ∷ l) n e = ap suc e
+
+-- a mark at a word
+pub shifted-mark : (l : List ℕ) (w : ℕ) → drop 1 (set l w 1) ≡ markedBy w (drop 1 l)
+shifted-mark [] zero = refl
+shifted-mark (y ∷ l) zero = refl
+shifted-mark [] (suc f) = sym (mark-set [] f)
+shifted-mark (y ∷ l) (suc f) = sym (mark-set l f)
+
+pub spread-taken : (notes : List ℕ) (i : ℕ) (l l′ l″ : List ℕ) (w v : ℕ) → (getD l (i + 1) 0 ≡ 0 → ⊥) → w ≡ word notes i 1 → l′ ≡ set l w 1 → v ≡ word notes i 2 → l″ ≡ set l′ v 1 → drop 1 l″ ≡ spreadBy notes i (drop 1 l)
 unfolding spreadBy
-spread-left notes i marks h = rw (le-ltb 0 (getD marks i 0) h)
+spread-taken notes i l l′ l″ w v h a p b q =
+    let e : getD (drop 1 l) i 0 ≡ getD l (i + 1) 0 = shifted l i ∙ ap (λ (j : ℕ). getD l j 0) (sym (add-one i)) in
+    let once : drop 1 l′ ≡ markedBy (word notes i 1) (drop 1 l) = ap (drop 1) p ∙ shifted-mark l w ∙ ap (λ (x : ℕ). markedBy x (drop 1 l)) a in
+    let twice : drop 1 l″ ≡ markedBy (word notes i 2) (drop 1 l′) = ap (drop 1) q ∙ shifted-mark l′ v ∙ ap (λ (x : ℕ). markedBy x (drop 1 l′)) b in
+    let t = lt-ltb 0 (getD (drop 1 l) i 0) (omega arith) in
+    twice ∙ ap (markedBy (word notes i 2)) once ∙ sym (ap (λ (c : Bool). if c (markedBy (word notes i 2) (markedBy (word notes i 1) (drop 1 l))) (drop 1 l)) t)
+
+pub spread-left : (notes : List ℕ) (i : ℕ) (l : List ℕ) → getD l (i + 1) 0 ≡ 0 → drop 1 l ≡ spreadBy notes i (drop 1 l)
+unfolding spreadBy
+spread-left notes i l h =
+    let e : getD (drop 1 l) i 0 ≡ getD l (i + 1) 0 = shifted l i ∙ ap (λ (j : ℕ). getD l j 0) (sym (add-one i)) in
+    let t = le-ltb 0 (getD (drop 1 l) i 0) (omega arith) in
+    sym (ap (λ (c : Bool). if c (markedBy (word notes i 2) (markedBy (word notes i 1) (drop 1 l))) (drop 1 l)) t)
 
 -- ---- at the start only entry x is marked
 
@@ -160,5 +191,7 @@ first-mark n notes x e h =
         go (inl e) = e
         go (inr ne) = absurd (let z : 0 < 0 = subst (λ (y : ℕ). 0 < y) (getD-set-other {A = ℕ} (replicate n 0) x j 1 0 ne ∙ zeros-at n j) m in omega arith)
 
-pub one-marked : (notes : List ℕ) (x : ℕ) → x < 1024 → Marked notes x (suc x) (set (replicate 1024 0) x 1)
-one-marked notes x h = first-mark 1024 notes x refl h
+pub one-marked : (n : ℕ) (notes : List ℕ) (x : ℕ) → n ≡ 1024 → x < n → Marked notes x (suc x) (drop 1 (set (replicate (suc n) 0) (x + 1) 1))
+one-marked n notes x e h =
+    subst⁻¹ (λ (w : ℕ). Marked notes x (suc x) (drop 1 (set (replicate (suc n) 0) w 1))) (add-one x)
+    (subst⁻¹ (Marked notes x (suc x)) (shifted-mark (replicate (suc n) 0) (suc x) ∙ mark-set (replicate n 0) x) (first-mark n notes x e h))

@@ -3,11 +3,12 @@ use mathlib.Core.Path.{_≡_, refl, sym, ap, _∙_, subst, subst⁻¹}
 use mathlib.Core.Logic.{_↔_, dite}
 use mathlib.Core.Bool.{Bool, true, false, _&&_, not}
 use mathlib.Core.List.{List, [], _∷_, _++_}
-use Prim.Native.Nat.{ℕ, _/_, _%_, _^_, _<_}
+use Prim.Native.Nat.{ℕ, _/_, _%_, _^_, _≤_, _<_}
 use native.Mathlib.Decide.{ℕ-discrete}
 use native.Mathlib.Nat.{lt-of-not-le}
 use native.Mathlib.Omega.{arith}
-use lib.Dec.{T, eqb, ltb, ltb→lt, lt→ltb, T-not}
+use lib.Dec.{T, eqb, leb, ltb, ltb→lt, lt→ltb, eqb→eq, leb→le, T-not}
+use lib.ListN.{length}
 use borrow.Author.Tests.{ne-eqb}
 use Rattle.meaning.specs.Lists.{all, each, below}
 use Rattle.meaning.specs.Table.{bit}
@@ -16,12 +17,12 @@ use Rattle.meaning.proofs.Bits.{bit-below-two, bit-above, bits-below}
 use Rattle.file.specs.declared.Refusal.{Refusal}
 use Rattle.file.specs.Refusals.{RefusalRow, Outcome, done, refused, first}
 use Rattle.file.specs.Values.{refusalOf, firstRefusal}
-use Rattle.file.specs.Reading.{headRows, checkRows, credentialsRows}
+use Rattle.file.specs.Reading.{between, headRows, checkRows, credentialsRows}
 use Rattle.file.proofs.First.{after, numbered, noneHolds, first-append, first-clear, first-holds, holds-first, numbered-append, not-not}
 use Rattle.withdrawals.specs.Source.{Source, E, R, N, listRows, endsRow, reading}
 use Rattle.withdrawals.proofs.Credentials.{reading-numbered}
 use Rattle.withdrawals.proofs.Refusals.{accepted-read, accepted-exact}
-use Rattle.asking.specs.Asking.{Request, StepLists, oneLength, within, requestRows, asking, Askable}
+use Rattle.asking.specs.Asking.{Request, StepLists, size, oneLength, within, requestRows, asking, Askable}
 use Rattle.asking.specs.Conditions.{ofRequest}
 
 -- ---- rows and their numbers
@@ -141,8 +142,34 @@ module _ (f : Source) (q : Request) (t : StepLists) where
     asked-number h =
         first-number {A = ℕ} ofRequest (asking f q t ++ []) 0 {n = r .number} {p = r .place} (all-append requestRow (asking f q t) [] asking-numbers tt) (asked-refused h {B = ℕ} [] 0)
 
-    pub asked-not : (r .number ≡ 0 → ⊥) → (m : ℕ) → T (not (ofRequest m)) → r .number ≡ m → ⊥
-    asked-not h m t i = T-not (ofRequest m) t (subst (λ (k : ℕ). T (ofRequest k)) i (asked-number h))
+-- ---- the lengths
+
+-- lists of one length
+pub same-lengths : (t : StepLists) → oneLength t ≡ true → (length (t .first) ≡ size t) × (length (t .second) ≡ size t) × (length (t .sets) ≡ size t) × (size t ≤ 1024)
+same-lengths t e = (
+  eqb→eq (length (t .first)) (size t) (and-left a b ab),
+  eqb→eq (length (t .second)) (size t) (and-right a b ab),
+  eqb→eq (length (t .sets)) (size t) (and-right (a && b) c abc),
+  leb→le (size t) 1024 (and-right (leb 1 (size t)) (leb (size t) 1024) (and-right (a && b && c) (between 1 1024 (size t)) all)),
+)
+  where
+    a : Bool
+    a = eqb (length (t .first)) (size t)
+
+    b : Bool
+    b = eqb (length (t .second)) (size t)
+
+    c : Bool
+    c = eqb (length (t .sets)) (size t)
+
+    all : T (a && b && c && between 1 1024 (size t))
+    all = subst⁻¹ T e tt
+
+    abc : T (a && b && c)
+    abc = and-left (a && b && c) (between 1 1024 (size t)) all
+
+    ab : T (a && b)
+    ab = and-left (a && b) c abc
 
 -- ---- within the file's numbers
 

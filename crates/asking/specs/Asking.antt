@@ -41,6 +41,13 @@ stepsIn t n = map (stepIn t) (below n)
 abbrev pub size : StepLists → ℕ
 size t = length (t .credential)
 
+-- the lengths of four lists, all that querying and the refusals of a request read of them
+pub record Sized (t : StepLists) (c f s r : ℕ) : Type 0 where
+  pub credential : length (t .credential) ≡ c
+  pub first : length (t .first) ≡ f
+  pub second : length (t .second) ≡ s
+  pub sets : length (t .sets) ≡ r
+
 -- of one length, 1 to 1,024
 abbrev pub oneLength : StepLists → Bool
 oneLength t = eqb (length (t .first)) (size t) && eqb (length (t .second)) (size t) && eqb (length (t .sets)) (size t) && between 1 1024 (size t)

@@ -5,7 +5,7 @@ ghost use Prim.Native.Nat.{_/_, _%_, _^_, _≤_};
 ghost use lib.Dec.{eqb, ltb};
 ghost use Rattle.file.specs.Reading.{between};
 ghost use Rattle.withdrawals.specs.Source.{_without_};
-ghost use Rattle.asking.specs.Asking.{request, stepLists};
+ghost use Rattle.asking.specs.Asking.{request, StepLists, Sized};
 ghost use Rattle.asking.specs.Admitting.{Admits};
 
 // Number and place of the first refusal of 1 to 9, 11, 12, 17, 20 and 21; where there is none, 0 and 0, and how many credentials the policy then has.
@@ -15,7 +15,7 @@ pub struct Admission {
     pub credentials: usize,
 }
 
-// Refusals 1 to 9, 11, 12, 17, 20 and 21; where there is none, the policy then has the credentials, their periods cut.
+// Refusals 1 to 9, 11, 12, 17, 20 and 21, for lists of so many steps; where there is none, the policy then has the credentials, their periods cut.
 pub fn judge(
     policy: &mut [u64; 512],
     file: &[u8],
@@ -23,19 +23,19 @@ pub fn judge(
     role: u32,
     set: u32,
     minute: u32,
-    credential: &[u32],
-    first: &[u32],
-    second: &[u32],
-    sets: &[u32],
+    credential: usize,
+    first: usize,
+    second: usize,
+    sets: usize,
 ) -> Admission
-    ensures { λ r. ⌜ Admits (now (file .entry) without now (withdrawals .entry)) (request role set minute) (stepLists (now (credential .entry)) (now (first .entry)) (now (second .entry)) (now (sets .entry))) (now (policy .exit)) r ⌝ }
+    ensures { λ r. ⌜ ((t : StepLists) → Sized t credential first second sets → Admits (now (file .entry) without now (withdrawals .entry)) (request role set minute) t (now (policy .exit)) r) ⌝ }
 {
     let mut ends = survey::no_ends();
     let s = survey::survey(policy, &mut ends, file, withdrawals);
     if s.number != 0 {
         return refused(s.number, s.place);
     }
-    if !one_length(credential.len(), first.len(), second.len(), sets.len()) {
+    if !one_length(credential, first, second, sets) {
         return refused(9, 0);
     }
     if !(within(s.entities, s.names, role, set) & (set != 0)) {

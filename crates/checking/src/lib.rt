@@ -47,10 +47,10 @@ pub fn check(
         role,
         set,
         minute,
-        credential,
-        first,
-        second,
-        sets,
+        credential.len(),
+        first.len(),
+        second.len(),
+        sets.len(),
     );
     if j.number != 0 {
         return Checked::Refused {

@@ -97,7 +97,7 @@ put-all n i y l b h s e =
 
 -- ---- lists of entries
 
-bytesOf-append : (k : ℕ) (xs ys : List ℕ) → bytesOf k (xs ++ ys) ≡ bytesOf k xs ++ bytesOf k ys
+pub bytesOf-append : (k : ℕ) (xs ys : List ℕ) → bytesOf k (xs ++ ys) ≡ bytesOf k xs ++ bytesOf k ys
 bytesOf-append k [] ys = refl
 bytesOf-append k (x ∷ xs) ys =
     ap (λ (l : List ℕ). bytes k x ++ l) (bytesOf-append k xs ys) ∙ sym (append-assoc (bytes k x) (bytesOf k xs) (bytesOf k ys))

@@ -8,7 +8,7 @@ use lib.Dec.{eqb, ltb}
 use lib.ListN.{length, take, drop}
 use Rattle.meaning.specs.Lists.{if}
 use Rattle.meaning.specs.Table.{Row, table}
-use Rattle.file.specs.Refusals.{Outcome, first, _when_, left}
+use Rattle.file.specs.Refusals.{Outcome, first, _when_, left, writes}
 use Rattle.file.specs.Reading.{between}
 use Rattle.withdrawals.specs.Source.{Source, credentials, reading}
 use Rattle.writing.specs.Columns.{column}
@@ -16,7 +16,6 @@ use Rattle.completing.specs.Completing.{Lent, lent, replyTo, TableEnding, table
 use Rattle.codec.specs.Bytes.{bytesOf, entries}
 use Rattle.codec.proofs.Entries.{length-entries}
 use Rattle.replies.specs.Interface.{word, notWhole}
-use Rattle.replies.specs.Replies.{writes}
 use Rattle.replies.proofs.Refusing.{nine-keeps}
 use Rattle.replies.proofs.Leaving.{left-kept, room-part, left-bytes}
 use Rattle.complete_bytes.specs.Interface.{lentIn, completeReply, completeBytes}

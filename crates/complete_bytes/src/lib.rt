@@ -1,10 +1,10 @@
 // Completing on bytes.
 ghost use mathlib.Core.Path.{_≡_};
 ghost use lib.ListN.{length};
+ghost use Rattle.file.specs.Refusals.{writes};
 ghost use Rattle.meaning.specs.Lists.{if};
 ghost use Rattle.completing.specs.Completing.{lent, saysCompleted};
 ghost use Rattle.replies.specs.Interface.{word};
-ghost use Rattle.replies.specs.Replies.{writes};
 ghost use Rattle.withdrawals.specs.Source.{_without_};
 ghost use Rattle.complete_bytes.specs.Interface.{completeBytes};
 ghost use Rattle.complete_bytes.specs.Lengths.{tableFits, TableSizes};

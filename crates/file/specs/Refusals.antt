@@ -35,6 +35,11 @@ abbrev pub left : {A : Type 0} → Outcome A → List ℕ → List ℕ → List 
 left (done a) before written = written
 left (refused n p) before written = if (eqb n 10 || eqb n 13) (replicate (length before) 0) before
 
+-- whether it writes or clears them
+abbrev pub writes : {A : Type 0} → Outcome A → Bool
+writes (done a) = true
+writes (refused n p) = eqb n 10 || eqb n 13
+
 -- number and place of an answer, 0 where it is no refusal
 abbrev pub numberOf : {A : Type 0} → Outcome A → ℕ
 numberOf (done a) = 0

@@ -1,2 +1,4 @@
 pub mod Entries
 pub mod Finding
+pub mod Sizes
+pub mod Levels

@@ -15,7 +15,7 @@ use Rattle.store.specs.Entries.{Has, Added}
 use Rattle.store.specs.Notes.{word, noted, Leveled}
 pub use Rattle.store.proofs.Chains.{below-or-not}
 use Rattle.store.proofs.Stores.{distinct-keys, grown-refl, grown-trans}
-use Rattle.store.proofs.Notes.{word-same, noted-old, noted-at, noted-first, noted-second, noted-length, noted-all}
+use Rattle.store.proofs.Notes.{noted-old, noted-at, noted-first, noted-second, noted-length, noted-all}
 use Rattle.heads.specs.Gaining.{Spanned, Origin, Kept, Over, Noted, Gains}
 use Rattle.heads.specs.Heads.{One}
 
@@ -42,7 +42,7 @@ Within P Q = (k at first second : ℕ) → P k at first second → Q k at first 
 
 -- no new entry
 pub noted-none : (notes : List ℕ) (n : ℕ) (By : Origin) (keys : List ℕ) → Noted notes n By keys notes n
-noted-none notes n By keys = record { same = λ p l. refl; by = λ i l o. absurd (omega arith) }
+noted-none notes n By keys = record { same = λ i k l m. refl; by = λ i l o. absurd (omega arith) }
 
 module _ {notes : List ℕ} {n : ℕ} {By : Origin} {keys′ notes′ : List ℕ} {r : ℕ} where
   pub noted-more : {By′ : Origin} → Within By By′ → Noted notes n By keys′ notes′ r → Noted notes n By′ keys′ notes′ r
@@ -52,14 +52,14 @@ module _ {notes : List ℕ} {n : ℕ} {By : Origin} {keys′ notes′ : List ℕ
   pub noted-then : {keys″ notes″ : List ℕ} {t : ℕ} → n ≤ r → ((i : ℕ) → i < r → getD keys″ i 0 ≡ getD keys′ i 0) → Noted notes n By keys′ notes′ r → Noted notes′ r By keys″ notes″ t → Noted notes n By keys″ notes″ t
   noted-then {keys″} {notes″} {t} more same g h =
       record {
-        same = λ p l. h .same p (omega arith) ∙ g .same p l;
+        same = λ i k l m. h .same i k (omega arith) m ∙ g .same i k l m;
         by = λ i l o. go i l o (below-or-not i r);
       }
     where
       go : (i : ℕ) → n ≤ i → i < t → (i < r) ⊎ (r ≤ i) → By (getD keys″ i 0) (word notes″ i 0) (word notes″ i 1) (word notes″ i 2)
       go i l o (inr m) = h .by i m o
       go i l o (inl m) =
-          let w : (k : ℕ) → k < 4 → word notes′ i k ≡ word notes″ i k = λ k q. sym (word-same notes′ notes″ r (h .same) i k m q) in
+          let w : (k : ℕ) → k < 3 → word notes′ i k ≡ word notes″ i k = λ k q. sym (h .same i k m q) in
           subst₃ (By (getD keys″ i 0)) (w 0 (omega arith)) (w 1 (omega arith)) (w 2 (omega arith))
           (subst⁻¹ (λ (k : ℕ). By k (word notes′ i 0) (word notes′ i 1) (word notes′ i 2)) (same i m) (g .by i l m))
 
@@ -178,7 +178,7 @@ module _ {limit key m : ℕ} {keys spans slots links notes keys′ spans′ slot
       go (inr o) = let w = more in omega arith
 
   -- whatever the notes are
-  gains-noted : {By : Origin} {notes′ : List ℕ} → (r ≤ limit → (length notes′ ≡ 4096) × ((i : ℕ) → i < r → Leveled notes′ i)) → (r ≤ limit → Noted notes n By keys′ notes′ r) → Gains limit keys spans notes n (One key m) By keys′ spans′ slots′ links′ notes′ r
+  gains-noted : {By : Origin} {notes′ : List ℕ} → (r ≤ limit → (length notes′ ≡ 3072) × ((i : ℕ) → i < r → Leveled notes′ i)) → (r ≤ limit → Noted notes n By keys′ notes′ r) → Gains limit keys spans notes n (One key m) By keys′ spans′ slots′ links′ notes′ r
   gains-noted leveled noted =
       record {
         kept = λ l. record { stored = a .stored l; room = (a .room ∙ kept .room .0, leveled l .0); some = λ i k z. let w = a .some l i k z in kept .some i (w .0) (w .1); leveled = leveled l .1 };
@@ -215,7 +215,7 @@ module _ {limit key m : ℕ} {keys spans slots links notes keys′ spans′ slot
     -- to the entry that has it, or in no spans
     pub gains-old : r ≡ n → Gains limit keys spans notes n (One key m) By keys′ spans′ slots′ links′ notes r
     gains-old e =
-        gains-noted (λ l. (kept .room .1, λ i o. kept .leveled i (omega arith))) (λ l. record { same = λ p o. refl; by = λ i p q. absurd (omega arith) })
+        gains-noted (λ l. (kept .room .1, λ i o. kept .leveled i (omega arith))) (λ l. record { same = λ i k o m. refl; by = λ i p q. absurd (omega arith) })
 
     -- as a new entry
     pub gains-new : {notes′ : List ℕ} (at first second : ℕ) → r ≤ limit → (r ≡ n → ⊥) → notes′ ≡ noted notes n at first second → first ≤ n → second ≤ n → By key at first second → Gains limit keys spans notes n (One key m) By keys′ spans′ slots′ links′ notes′ r
@@ -227,7 +227,7 @@ module _ {limit key m : ℕ} {keys spans slots links notes keys′ spans′ slot
         last : r ≡ n + 1
         last = added-last l ne
 
-        room : length notes ≡ 4096
+        room : length notes ≡ 3072
         room = kept .room .1
 
         few : n < 1024

@@ -3,10 +3,10 @@ use mathlib.Core.Path.{_≡_, refl, ap, _∙_}
 use mathlib.Core.Logic.{_⊎_, inl, inr}
 use mathlib.Core.Bool.{Bool, true, false}
 use mathlib.Core.List.{List}
-use Prim.Native.Nat.{ℕ, _+_, _-_, _≤_, _<_, zero-le}
+use Prim.Native.Nat.{ℕ, _+_, _-_, _/_, _%_, _≤_, _<_, zero-le}
 use native.Mathlib.Omega.{arith}
 use lib.Bits.{bitAnd, bitOr}
-use lib.Dec.{ltb}
+use lib.Dec.{eqb}
 use lib.ListN.{getD}
 use Rattle.meaning.specs.Lists.{if}
 use Rattle.meaning.specs.Table.{bit}
@@ -86,7 +86,7 @@ module _ {valid lists : List ℕ} {body : ℕ} where
 
 -- what is cited is the entry that gives, or its partner
 pub cited-low : (source own other n : ℕ) → own ≤ n → other ≤ n → (firstBy source own other ≤ n) × (secondBy source own other ≤ n)
-cited-low source own other n h k = go (ltb source 256)
+cited-low source own other n h k = go (eqb (source / 256 % 2) 0)
   where
     go : (b : Bool) → (if b own other ≤ n) × (if b other own ≤ n)
     go true = (h, k)

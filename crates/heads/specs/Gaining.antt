@@ -2,10 +2,10 @@
 use mathlib.Core.Path.{_≡_}
 use mathlib.Core.Logic.{_⊎_, _↔_}
 use mathlib.Core.List.{List}
-use Prim.Native.Nat.{ℕ, _*_, _≤_, _<_}
+use Prim.Native.Nat.{ℕ, _≤_, _<_}
 use lib.ListN.{length, getD}
 use Rattle.store.specs.Entries.{Has, Stored, Grown}
-use Rattle.store.specs.Notes.{word, Leveled}
+use Rattle.store.specs.Notes.{word, Leveled, SameWords}
 
 -- keys with their spans
 abbrev pub Spanned : Type 1
@@ -18,7 +18,7 @@ Origin = ℕ → ℕ → ℕ → ℕ → Type 0
 -- entries, none without spans, each noted
 pub record Kept (keys spans slots links notes : List ℕ) (n : ℕ) : Type 0 where
   pub stored : Stored keys slots links n
-  pub room : (length spans ≡ 1024) × (length notes ≡ 4096)
+  pub room : (length spans ≡ 1024) × (length notes ≡ 3072)
   pub some : (i : ℕ) → i < n → getD spans i 0 ≡ 0 → ⊥
   pub leveled : (i : ℕ) → i < n → Leveled notes i
 
@@ -30,7 +30,7 @@ pub record Over (limit : ℕ) (P : ℕ → Type 0) : Type 0 where
 
 -- the notes of the first n entries stay, and those from n up to r say how By makes these entries
 pub record Noted (notes : List ℕ) (n : ℕ) (By : Origin) (keys′ notes′ : List ℕ) (r : ℕ) : Type 0 where
-  pub same : (p : ℕ) → p < 4 * n → getD notes′ p 0 ≡ getD notes p 0
+  pub same : SameWords notes n notes′
   pub by : (i : ℕ) → n ≤ i → i < r → By (getD keys′ i 0) (word notes′ i 0) (word notes′ i 1) (word notes′ i 2)
 
 -- Exactly the keys and spans in New were added, new entries by By, and nothing was lost; or, for an answer above the limit, there are too many keys.

@@ -1,9 +1,9 @@
 -- What the heads of a body give from sets, and how the entries that they make are noted.
 use mathlib.Core.Path.{_≡_}
 use mathlib.Core.List.{List}
-use Prim.Native.Nat.{ℕ, _-_, _≤_, _<_}
+use Prim.Native.Nat.{ℕ, _/_, _%_, _≤_, _<_}
 use lib.Bits.{bitAnd}
-use lib.Dec.{ltb}
+use lib.Dec.{eqb}
 use lib.ListN.{getD}
 use Rattle.meaning.specs.Lists.{if}
 use Rattle.meaning.specs.Table.{bit}
@@ -38,13 +38,13 @@ pub record Headed (codes valid lists : List ℕ) (body : ℕ) (Sets : Spanned) (
 
 -- what a source says: the credential, and which of the entry that gives and its partner is cited first and which second
 abbrev pub credentialBy : ℕ → ℕ
-credentialBy source = if (ltb source 256) source (source - 256)
+credentialBy source = source % 256
 
 abbrev pub firstBy : ℕ → ℕ → ℕ → ℕ
-firstBy source own other = if (ltb source 256) own other
+firstBy source own other = if (eqb (source / 256 % 2) 0) own other
 
 abbrev pub secondBy : ℕ → ℕ → ℕ → ℕ
-secondBy source own other = if (ltb source 256) other own
+secondBy source own other = if (eqb (source / 256 % 2) 0) other own
 
 -- the note of an entry that head i makes from a set
 pub record FromHead (codes lists : List ℕ) (own other set i k at first second : ℕ) : Type 0 where

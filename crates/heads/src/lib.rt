@@ -2,9 +2,8 @@
 ghost use mathlib.Core.Path.{_≡_};
 ghost use mathlib.Core.List.{List};
 ghost use Prim.Native.Nat.{ℕ, _<_, _≤_};
-ghost use lib.ListN.{length};
 ghost use Rattle.rules.specs.Uses.{Listed};
-ghost use Rattle.store.specs.Notes.{noted, Leveled};
+ghost use Rattle.store.specs.Notes.{noted};
 ghost use Rattle.heads.specs.Gaining.{Kept, Gains};
 ghost use Rattle.heads.specs.Heads.{Ready, One, ByHead, Headed, Coverings, credentialBy, firstBy, secondBy, FromHead, FromHeads, TheOne};
 
@@ -25,7 +24,7 @@ pub fn add_heads(
     spans: &mut [u64; 1024],
     slots: &mut [u16; 3072],
     links: &mut [u16; 2048],
-    notes: &mut [u16; 4096],
+    notes: &mut [u16; 3072],
     codes: &[u32; 1024],
     valid: &[u64; 512],
     lists: &[u16; 3106],
@@ -66,7 +65,7 @@ pub fn add_head(
     spans: &mut [u64; 1024],
     slots: &mut [u16; 3072],
     links: &mut [u16; 2048],
-    notes: &mut [u16; 4096],
+    notes: &mut [u16; 3072],
     codes: &[u32; 1024],
     valid: &[u64; 512],
     lists: &[u16; 3106],
@@ -105,13 +104,11 @@ pub fn body_spans(valid: &[u64; 512], lists: &[u16; 3106], body: usize) -> u64
 }
 
 // Notes entry n by the source of a head.
-fn note_head(notes: &mut [u16; 4096], n: usize, source: u16, own: u16, other: u16)
-    requires { ⌜ (length (now notes) ≡ 4096) × (n < 1024) × (own ≤ n) × (other ≤ n) ⌝ ∗ ⌜ ((i : ℕ) → i < n → Leveled (now notes) i) ⌝ }
+fn note_head(notes: &mut [u16; 3072], n: usize, source: u16, own: u16, other: u16)
+    requires { ⌜ (n < 1024) × (own ≤ n) × (other ≤ n) ⌝ }
     ensures { λ _. ⌜ now (notes .exit) ≡ noted (now (notes .entry)) n (credentialBy source) (firstBy source own other) (secondBy source own other) ⌝ }
 {
-    if source < 256 {
-        store::note(notes, n, source, own, other);
-    } else {
-        store::note(notes, n, source - 256, other, own);
-    }
+    let premise = source / 256 % 2;
+    let first = own * (1 - premise) + other * premise;
+    store::note(notes, n, source % 256, first, own + other - first);
 }

@@ -130,4 +130,9 @@ module _ (f : Source) (a : Accepted f) (q : Request) (b b′ : StepLists) (L r :
   -- the query on entries
   pub as-entries : Queried f q (stepListsIn b) answer (stepListsIn b′)
   unfolding queryBytes
-  as-entries = record { steps = ss; ends = lists-left; handed = λ c e. (d .handed c e .0, omega (arith, few c e, as-many)) }
+  as-entries = record {
+    steps = ss;
+    ends = lists-left;
+    handed = λ c e. (d .handed c e .0, omega (arith, few c e, as-many));
+    bounded = λ c e. let g = d .bounded c e in (g .0, omega (arith, g .1, length-entries 4 (b .credential)), omega (arith, g .2, length-entries 4 (b .credential)));
+  }

@@ -19,10 +19,9 @@ use Rattle.file.specs.Reading.{between}
 use Rattle.withdrawals.specs.Source.{Source, credentials}
 use Rattle.withdrawals.proofs.Claims.{within-format}
 use Rattle.asking.specs.Asking.{Request, StepLists, stepIn, stepsIn, size, oneLength, Askable}
-use Rattle.asking.proofs.Asked.{askable-passes}
+use Rattle.asking.proofs.Asked.{askable-passes, same-lengths}
 use Rattle.derivation.specs.HandedOut.{HandedOut, words}
 use Rattle.querying.specs.Querying.{Counts, counts, minuteFullRow, noneRow, levelFor, replyWith, QueryEnding, querying, Queried}
-use Rattle.querying.proofs.Working.{same-lengths}
 use Rattle.checking.specs.Checking.{checking}
 use Rattle.checking.proofs.Claims.{passes-exactly}
 use Rattle.joint.specs.Joint.{SomeProof, Given, AfterQuery}

@@ -3,9 +3,9 @@ use mathlib.Core.Path.{_≡_, refl, ap, _∙_, subst⁻¹}
 use mathlib.Core.Logic.{_⊎_, inl, inr}
 use mathlib.Core.Bool.{Bool, true, false}
 use mathlib.Core.List.{List}
-use Prim.Native.Nat.{ℕ, suc, _+_, _-_, _%_, _≤_, _<_}
+use Prim.Native.Nat.{ℕ, suc, _+_, _-_, _/_, _%_, _≤_, _<_}
 use native.Mathlib.Omega.{arith}
-use lib.Dec.{ltb}
+use lib.Dec.{eqb}
 use lib.ListN.{getD}
 use Rattle.meaning.specs.Lists.{if}
 use Rattle.store.specs.Entries.{roleIn}
@@ -44,7 +44,7 @@ cited-entry notes w i e = let q : w - 1 ≡ i = omega arith in level-by-cited no
 
 -- one level above the entry that gives, where its partner is not above it
 cited-above : (notes : List ℕ) (source own other level : ℕ) → levelBy notes own ≡ level → levelBy notes other ≤ level → levelAbove notes (firstBy source own other) (secondBy source own other) ≡ suc level
-cited-above notes source own other level e l = go (ltb source 256)
+cited-above notes source own other level e l = go (eqb (source / 256 % 2) 0)
   where
     go : (b : Bool) → levelAbove notes (if b own other) (if b other own) ≡ suc level
     go true = omega arith

@@ -3,7 +3,7 @@ use mathlib.Core.Path.{_≡_, refl, sym, ap, _∙_, subst, subst⁻¹, subst₃}
 use mathlib.Core.Logic.{_⊎_, inl, inr}
 use mathlib.Core.Bool.{Bool}
 use mathlib.Core.List.{List, List·Memᴰ as Mem}
-use Prim.Native.Nat.{ℕ, suc, _+_, _*_, _≤_, _<_, max}
+use Prim.Native.Nat.{ℕ, suc, _+_, _≤_, _<_, max}
 use native.Mathlib.Nat.{not-suc-le-zero, le-refl}
 use native.Mathlib.Omega.{arith}
 use lib.ListN.{getD}
@@ -13,14 +13,14 @@ use Rattle.meaning.specs.Sequence.{Gives}
 use Rattle.meaning.specs.Table.{bit}
 use Rattle.meaning.proofs.Levels.{gives-more}
 use Rattle.store.specs.Entries.{keyOf, Grown}
-use Rattle.store.specs.Notes.{word, levelOf}
+use Rattle.store.specs.Notes.{word, levelOf, SameWords}
 use Rattle.store.proofs.Chains.{last-or-below, below-or-not}
-use Rattle.store.proofs.Notes.{word-same, level-same}
+use Rattle.store.proofs.Notes.{leveled-back, level-same}
 use Rattle.heads.specs.Gaining.{Noted}
 use Rattle.closure.specs.Closure.{Held, Found, Policy, Closed}
 use Rattle.premises.specs.Combining.{Keyed}
 use Rattle.giving.specs.Giving.{FromEntry, Gave}
-use Rattle.levels.specs.Levels.{AtStart, NotedBy, Premises, OneSpan, HasUpTo, Leveling, FiredAll}
+use Rattle.levels.specs.Levels.{AtStart, Rising, NotedBy, Premises, OneSpan, HasUpTo, Leveling, FiredAll}
 use Rattle.levels.proofs.Citing.{from-entry-same, given-level}
 use Rattle.levels.proofs.Spans.{has-span, keyed-found}
 
@@ -33,11 +33,11 @@ pub record Passed (limit : ℕ) (codes valid lists keys₀ spans₀ notes₀ don
   pub few : r ≤ limit
   pub held : Held keys spans slots links notes done r
   pub ahead : (i : ℕ) → e ≤ i → getD done i 0 ≡ 0
-  pub rising : (i j : ℕ) → i ≤ j → j < r → levelOf notes i ≤ levelOf notes j
+  pub rising : Rising notes r
   pub under : e < r → (i : ℕ) → i < r → levelOf notes i ≤ suc (levelOf notes e)
   pub more : n ≤ r
   pub keysSame : (i : ℕ) → i < n → getD keys i 0 ≡ getD keys₀ i 0
-  pub notesSame : (p : ℕ) → p < 4 * n → getD notes p 0 ≡ getD notes₀ p 0
+  pub notesSame : SameWords notes₀ n notes
   pub noted : (i : ℕ) → n ≤ i → i < r → NotedBy codes lists keys notes i
   pub closed : (ss : ℕ → List Statement) → Policy ss codes valid lists → Closed ss keys₀ spans₀ done₀ n → Closed ss keys spans done r
   pub one : (ss : ℕ → List Statement) → OneSpan ss → Policy ss codes valid lists → Closed ss keys₀ spans₀ done₀ n → InSpan (ss 0) keys notes done r e
@@ -53,7 +53,7 @@ module _ {limit : ℕ} {codes valid lists keys₀ spans₀ notes₀ done₀ : Li
         under = λ l i o. omega (arith, s .one i o);
         more = le-refl n;
         keysSame = λ i _. refl;
-        notesSame = λ p _. refl;
+        notesSame = λ i k _ _. refl;
         noted = λ i l o. absurd (omega arith);
         closed = λ ss _ c. c;
         one = λ ss _ _ _. record { gave = λ i l. absurd (not-suc-le-zero l); leveling = λ st m i j X l. absurd (not-suc-le-zero l) };
@@ -66,6 +66,7 @@ module _ {limit : ℕ} {codes valid lists keys₀ spans₀ notes₀ done₀ : Li
           held = λ _. p .held;
           keysSame = λ _. p .keysSame;
           notesSame = λ _. p .notesSame;
+          rising = λ _. p .rising;
           more = λ _. p .more;
           noted = λ _. p .noted;
           closed = λ _. p .closed;
@@ -85,6 +86,7 @@ module _ {limit : ℕ} {codes valid lists keys₀ spans₀ notes₀ done₀ : Li
               held = λ l. absurd (omega arith);
               keysSame = λ l. absurd (omega arith);
               notesSame = λ l. absurd (omega arith);
+              rising = λ l. absurd (omega arith);
               more = λ l. absurd (omega arith);
               noted = λ l. absurd (omega arith);
               closed = λ l. absurd (omega arith);
@@ -123,7 +125,7 @@ module _ {limit : ℕ} {codes valid lists keys₀ spans₀ notes₀ done₀ : Li
           -- ---- levels
 
           level-old : (i : ℕ) → i < r → levelOf notes′ i ≡ levelOf notes i
-          level-old = level-same notes notes′ r (noted .same)
+          level-old = level-same notes notes′ r (noted .same) (leveled-back notes r (p .held .kept .leveled))
 
           rising-here : (i : ℕ) → i ≤ e → levelOf notes′ i ≤ levelOf notes′ e
           rising-here i o = omega (arith, level-old i (omega arith), level-old e low, p .rising i e o low)
@@ -161,8 +163,8 @@ module _ {limit : ℕ} {codes valid lists keys₀ spans₀ notes₀ done₀ : Li
                     (from-entry-same (grown .same (v .e) (omega (arith, v .low))) (λ j m. grown .same j (omega (arith, v .few))) (v .from)));
               }
             where
-              same : (k : ℕ) → k < 4 → word notes′ i k ≡ word notes i k
-              same k m = word-same notes notes′ r (noted .same) i k o m
+              same : (k : ℕ) → k < 3 → word notes′ i k ≡ word notes i k
+              same k m = noted .same i k o m
 
           noted-new : (i : ℕ) → r ≤ i → i < t → NotedBy codes lists keys′ notes′ i
           noted-new i o m =
@@ -231,7 +233,7 @@ module _ {limit : ℕ} {codes valid lists keys₀ spans₀ notes₀ done₀ : Li
                 under = λ o i m. omega (arith, under′ i m, rising′ e (e + 1) (omega arith) o);
                 more = omega (arith, p .more, grown .more);
                 keysSame = λ i m. grown .same i (omega (arith, p .more)) ∙ p .keysSame i m;
-                notesSame = λ x m. noted .same x (omega (arith, p .more)) ∙ p .notesSame x m;
+                notesSame = λ i k m o. noted .same i k (omega (arith, p .more)) o ∙ p .notesSame i k m o;
                 noted = noted′;
                 closed = λ ss q c. g .closes .closed l ss q (p .closed ss q c);
                 one = λ ss o q c. in-span o q c;

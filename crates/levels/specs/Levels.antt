@@ -1,12 +1,12 @@
 -- Entries that give one after the other, in list order, in one span.
 use mathlib.Core.Path.{_≡_}
 use mathlib.Core.List.{List, List·Memᴰ as Mem}
-use Prim.Native.Nat.{ℕ, suc, _*_, _≤_, _<_, max}
+use Prim.Native.Nat.{ℕ, suc, _≤_, _<_, max}
 use lib.ListN.{getD}
 use Rattle.meaning.specs.Credentials.{Body, set, role, link, _∩_, _⊙_, _⊗_, Statement}
 use Rattle.meaning.specs.Sequence.{Gives}
 use Rattle.store.specs.Entries.{keyOf}
-use Rattle.store.specs.Notes.{word, levelOf}
+use Rattle.store.specs.Notes.{word, levelOf, SameWords}
 use Rattle.rules.specs.Uses.{Listed, Formed}
 use Rattle.closure.specs.Closure.{Held, Policy, TooMany, Closed}
 use Rattle.premises.specs.Combining.{Keyed}
@@ -19,6 +19,10 @@ pub record AtStart (keys spans slots links notes done codes valid lists : List �
   pub one : (i : ℕ) → i < n → levelOf notes i ≡ 1
   pub listed : Listed codes valid lists
   pub formed : Formed codes lists
+
+-- the levels of the first n entries never fall
+abbrev pub Rising : List ℕ → ℕ → Type 0
+Rising notes n = (i j : ℕ) → i ≤ j → j < n → levelOf notes i ≤ levelOf notes j
 
 -- The note of entry i: entry e, which is before it, gave it, with entries up to e.
 pub record NotedBy (codes lists keys notes : List ℕ) (i : ℕ) : Type 0 where
@@ -56,7 +60,8 @@ Leveling ss keys notes n e =
 pub record FiredAll (limit : ℕ) (codes valid lists keys spans notes done : List ℕ) (n : ℕ) (keys′ spans′ slots′ links′ notes′ done′ : List ℕ) (r : ℕ) : Type 0 where
   pub held : r ≤ limit → Held keys′ spans′ slots′ links′ notes′ done′ r
   pub keysSame : r ≤ limit → (i : ℕ) → i < n → getD keys′ i 0 ≡ getD keys i 0
-  pub notesSame : r ≤ limit → (p : ℕ) → p < 4 * n → getD notes′ p 0 ≡ getD notes p 0
+  pub notesSame : r ≤ limit → SameWords notes n notes′
+  pub rising : r ≤ limit → Rising notes′ r
   pub more : r ≤ limit → n ≤ r
   pub noted : r ≤ limit → (i : ℕ) → n ≤ i → i < r → NotedBy codes lists keys′ notes′ i
   pub closed : r ≤ limit → (ss : ℕ → List Statement) → Policy ss codes valid lists → Closed ss keys spans done n → Closed ss keys′ spans′ done′ r

@@ -9,7 +9,7 @@ pub fn fire_all(
     spans: &mut [u64; 1024],
     slots: &mut [u16; 3072],
     links: &mut [u16; 2048],
-    notes: &mut [u16; 4096],
+    notes: &mut [u16; 3072],
     done: &mut [u64; 1024],
     codes: &[u32; 1024],
     valid: &[u64; 512],

@@ -26,7 +26,7 @@ pub fn with_heads(
     spans: &mut [u64; 1024],
     slots: &mut [u16; 3072],
     links: &mut [u16; 2048],
-    notes: &mut [u16; 4096],
+    notes: &mut [u16; 3072],
     done: &[u64; 1024],
     codes: &[u32; 1024],
     valid: &[u64; 512],
@@ -68,7 +68,6 @@ pub fn with_heads(
 
 // What a pair gives the heads of a plan's body.
 pub fn gift_of(p: Plan, x: Pair) -> Gift
-    requires { ⌜ x .other ≤ 1024 ⌝ }
     ensures { λ r. ⌜ r ≡ giftOf p x ⌝ }
 {
     Gift {
@@ -77,7 +76,7 @@ pub fn gift_of(p: Plan, x: Pair) -> Gift
         set: x.set,
         spans: x.spans,
         own: p.own,
-        other: x.other as u16,
+        other: x.other,
     }
 }
 
@@ -87,16 +86,16 @@ fn add_waiting(
     spans: &mut [u64; 1024],
     slots: &mut [u16; 3072],
     links: &mut [u16; 2048],
-    notes: &mut [u16; 4096],
+    notes: &mut [u16; 3072],
     codes: &[u32; 1024],
     valid: &[u64; 512],
     lists: &[u16; 3106],
-    places: &[u64; 257],
+    places: &[u64; 97],
     n: usize,
     p: Plan,
     count: usize,
 ) -> usize
-    requires { ⌜ Ready (now keys) (now spans) (now slots) (now links) (now notes) n (p .limit) (now codes) (now valid) (now lists) (p .body) ⌝ ∗ ⌜ (count ≤ 64) × (p .own ≤ n) ⌝ ∗ ⌜ ((i : ℕ) → i < count → roleIn (getD (now places) i 0) ≤ n) ⌝ }
+    requires { ⌜ Ready (now keys) (now spans) (now slots) (now links) (now notes) n (p .limit) (now codes) (now valid) (now lists) (p .body) ⌝ ∗ ⌜ (count ≤ 24) × (p .own ≤ n) ⌝ ∗ ⌜ ((i : ℕ) → i < count → roleIn (getD (now places) i 0) ≤ n) ⌝ }
     ensures { λ r. ⌜ Gains (p .limit) (now (keys .entry)) (now (spans .entry)) (now (notes .entry)) n (Headed (now (codes .entry)) (now (valid .entry)) (now (lists .entry)) (p .body) (Waits (now (places .entry)) count)) (FromHeads (now (codes .entry)) (now (lists .entry)) (p .body) (p .own) (Partnered (now (places .entry)) count)) (now (keys .exit)) (now (spans .exit)) (now (slots .exit)) (now (links .exit)) (now (notes .exit)) r ⌝ }
 {
     let limit = p.limit;
@@ -106,8 +105,8 @@ fn add_waiting(
         let y = places[i];
         let x = Pair {
             set: store::set_of(y),
-            spans: places[64 + i],
-            other: store::role_of(y) as u64,
+            spans: places[24 + i],
+            other: store::role_of(y) as u16,
         };
         let g = gift_of(p, x);
         r = heads::add_heads(keys, spans, slots, links, notes, codes, valid, lists, r, g);

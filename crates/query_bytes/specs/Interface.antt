@@ -9,7 +9,7 @@ use Rattle.file.specs.Refusals.{Outcome, done, left}
 use Rattle.withdrawals.specs.Source.{Source, credentials}
 use Rattle.asking.specs.Asking.{Request, StepLists, stepLists}
 use Rattle.derivation.specs.HandedOut.{HandedOut, words}
-use Rattle.querying.specs.Querying.{Counts, counts, replyWith, QueryEnding, queryEnding}
+use Rattle.querying.specs.Querying.{Counts, counts, replyWith, QueryEnding, queryEnding, Bounded}
 use Rattle.codec.specs.Bytes.{bytesOf}
 use Rattle.replies.specs.Interface.{word, notWhole, entryCount, wholeSteps, stepListsIn}
 
@@ -37,3 +37,4 @@ pub record QueriedBytes (f : Source) (q : Request) (b : StepLists) (r : ℕ) (b�
   pub lists : b′ ≡ queryBytes f q b steps .lists
   pub handed : (c : Counts) → queryBytes f q b steps .reply ≡ done c
       → HandedOut (credentials f) (q .minute) (q .role) (q .set) (c .level) steps × (length steps ≤ entryCount (b .credential))
+  pub bounded : (c : Counts) → queryBytes f q b steps .reply ≡ done c → Bounded f q (entryCount (b .credential)) (c .level)

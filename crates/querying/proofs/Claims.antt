@@ -36,6 +36,10 @@ module _ (f : Source) (q : Request) (t : StepLists) {reply : Outcome Counts} {t�
   pub proof-exact : ((c : Counts) × (reply ≡ done c)) ↔ (Askable f q t × (membersFor f q ≤ size t) × Provable (credentials f) (q .minute) (q .role) (q .set))
   proof-exact = Refusals.proof-exact f q t d
 
+  -- A level that is replied is at most the number of memberships at the minute, which is at most L; on cut periods too, since f has the withdrawals.
+  pub level-bound : (c : Counts) → reply ≡ done c → (c .level ≤ membersFor f q) × (membersFor f q ≤ size t) × (size t ≤ 1024)
+  level-bound = d .bounded
+
 -- With the list of count 0 the reply is by the file's own refusals and credentials.
 pub uncut-reply : (f : List ℕ) (q : Request) (t : StepLists) (ss : List Step) → replyWith (f without none) q t ss
     ≡ first (Reading.reading f ++ (requestRows (f without none) q t

@@ -1,4 +1,3 @@
-pub mod Working
-pub mod Replies
 pub mod Refusals
+pub mod Replies
 pub mod Claims

@@ -1,5 +1,5 @@
 -- The refusals of querying are given exactly under the documents' conditions.
-use mathlib.Core.Path.{_≡_, refl, ap, _∙_, subst}
+use mathlib.Core.Path.{_≡_, refl, sym, ap, _∙_, subst}
 use mathlib.Core.Logic.{_⊎_, inl, inr, _↔_}
 use mathlib.Core.Bool.{Bool}
 use mathlib.Core.List.{List, [], _∷_}
@@ -10,7 +10,7 @@ use lib.ListN.{length}
 use Rattle.meaning.specs.Members.{member, has, members}
 use Rattle.meaning.specs.Proofs.{Step, Provable}
 use Rattle.meaning.proofs.OrderLaws.{has-in, has-out}
-use Rattle.meaning.proofs.Claims.{members-exact, proofs-and-rules}
+use Rattle.meaning.proofs.Claims.{members-exact, proofs-and-rules, least-level-bound}
 use Rattle.file.specs.Refusals.{RefusalRow, Outcome, done, refused, first}
 use Rattle.file.proofs.Refusals.{pass, give, by-test, less}
 use Rattle.withdrawals.specs.Source.{Source, credentials}
@@ -18,9 +18,9 @@ use Rattle.withdrawals.proofs.Claims.{within-format}
 use Rattle.withdrawals.proofs.Refusals.{not-of-source}
 use Rattle.asking.specs.Asking.{Request, StepLists, size, Askable}
 use Rattle.asking.specs.Conditions.{RefusedRequest, file, lengths, numbers, minute}
-use Rattle.asking.proofs.Asked.{askable-passes}
+use Rattle.asking.proofs.Asked.{askable-passes, same-lengths}
 use Rattle.asking.proofs.Requests.{RequestVerdict, request-verdict, call-refused}
-use Rattle.querying.specs.Querying.{Counts, counts, minuteFullRow, noneRow, levelFor, replyWith, QueryEnding, querying, Queried}
+use Rattle.querying.specs.Querying.{Counts, counts, minuteFullRow, noneRow, levelFor, replyWith, QueryEnding, querying, Bounded, Queried}
 use Rattle.querying.specs.Conditions.{membersFor, RefusedQuery, request, full, none}
 
 -- a request's refusals are neither 10 nor 13, which the query itself gives
@@ -99,6 +99,26 @@ module _ (f : Source) (q : Request) (t : StepLists) where
       by-request : RequestVerdict f q t → QueryVerdict
       by-request (inl a) = by-count a (less (size t) (membersFor f q))
       by-request (inr (n, p, r)) = inr (n, p, request r)
+
+  -- ---- the bound
+
+  abbrev levelIn : Outcome Counts → ℕ
+  levelIn (done c) = c .level
+  levelIn (refused n p) = 0
+
+  -- a level that is replied is the least one, so no more than there are memberships
+  pub reply-bound : (ss : List Step) (c : Counts) → replyWith f q t ss ≡ done c → Bounded f q (size t) (c .level)
+  unfolding QueryVerdict
+  reply-bound ss c e = go query-verdict
+    where
+      go : QueryVerdict → Bounded f q (size t) (c .level)
+      go (inl x) =
+          let l : levelFor f q ≡ c .level = ap levelIn (sym (answered-reply ss x) ∙ e) in
+          (omega (arith, least-level-bound (credentials f) (within-format f (x .askable .accepted)) (q .minute) (x .proved)), x .few, same-lengths t (x .askable .lists) .3)
+      go (inr (n, p, r)) =
+          let y = sym (refused-reply ss r) ∙ e in
+          let z : _≡_ {A = ℕ} 0 1 = cc in
+          absurd (omega arith)
 
   -- ---- by number
 

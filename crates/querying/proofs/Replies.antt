@@ -1,167 +1,191 @@
 -- The reply and the lists of each way in which querying ends.
 use mathlib.Core.Path.{_≡_, refl, sym, ap, _∙_, subst, subst⁻¹}
-use mathlib.Core.Logic.{_⊎_, inl, inr}
-use mathlib.Core.Bool.{Bool, true, false, not}
-use mathlib.Core.List.{List, [], _∷_}
-use Prim.Native.Nat.{ℕ, _-_, _^_, _<_}
+use mathlib.Core.Bool.{Bool, true, false}
+use mathlib.Core.List.{List, [], _∷_, _++_}
+use Prim.Native.Nat.{ℕ, zero, suc, _-_, _^_, _≤_, _<_}
 use native.Mathlib.Omega.{arith}
 use borrow.Author.Tests.{eq-eqb, ne-eqb}
-use lib.Dec.{ltb}
+use lib.Dec.{T, ltb, lt→ltb}
 use lib.ListN.{length, getD, replicate}
 use Rattle.meaning.specs.Lists.{if}
-use Rattle.meaning.specs.Credentials.{Credential}
-use Rattle.meaning.specs.Members.{member, has, members}
-use Rattle.meaning.specs.Proofs.{Step}
-use Rattle.file.specs.declared.Refusal.{Refusal}
-use Rattle.file.specs.Values.{firstRefusal}
-use Rattle.file.specs.Refusals.{Outcome, done, refused, left}
+use Rattle.meaning.specs.Credentials.{Credential, credentialAt}
+use Rattle.meaning.specs.Proofs.{Step, citesFirst, citesSecond}
+use Rattle.file.specs.Refusals.{RefusalRow, Outcome, done, refused, first, left, writes}
 use Rattle.withdrawals.specs.Source.{Source, credentials}
 use Rattle.store.specs.Entries.{roleIn, setIn}
-use Rattle.store.specs.Notes.{levelOf}
+use Rattle.store.specs.Notes.{word, levelOf}
 use Rattle.store.proofs.Keys.{role-of-key, set-of-key}
 use Rattle.asking.specs.Asking.{Request, StepLists, stepLists, size, asking}
-use Rattle.asking.proofs.Asked.{asked-refused, asked-passed, asked-not}
+use Rattle.asking.proofs.Asked.{same-lengths}
 use Rattle.derivation.specs.HandedOut.{HandedOut, words}
-use Rattle.answering.specs.Steps.{upTo}
+use Rattle.derivation.specs.Derivation.{Citable, Derivation}
+use Rattle.answering.specs.Answering.{Citing, Keeps}
+use Rattle.answering.specs.Steps.{stepsIn}
+use Rattle.answering.proofs.Writing.{steps-count}
 use Rattle.finding.specs.declared.Found.{Found}
 use Rattle.finding.specs.Finding.{saysFound, Shows, Finds}
 use Rattle.querying.specs.Querying.{Counts, counts, minuteFullRow, noneRow, levelFor, replyWith, queryEnding, querying, Queried}
-use Rattle.querying.specs.Working.{zeros, HandsOut, none, proof}
-
--- a refusal other than 10 and 13 leaves a list as it was, and these leave zeros
-left-same : (n p : ℕ) (before written : List ℕ) → (n ≡ 10 → ⊥) → (n ≡ 13 → ⊥) → left {A = Counts} (refused n p) before written ≡ before
-left-same n p before written h k = simp (ne-eqb n 10 h, ne-eqb n 13 k)
-
-left-zeros : (n p : ℕ) (before written : List ℕ) → (n ≡ 10) ⊎ (n ≡ 13) → left {A = Counts} (refused n p) before written ≡ replicate (length before) 0
-left-zeros n p before written (inl e) = rw e refl
-left-zeros n p before written (inr e) = rw e refl
-
--- lists that are cleared from place 0 on
-clear : (l : List ℕ) {l′ : List ℕ} → l′ ≡ upTo 0 l → l′ ≡ replicate (length l) 0
-clear l e = let z : length l - 0 ≡ length l = omega arith in e ∙ ap (λ (k : ℕ). replicate k 0) z
-
-pub cleared : (t : StepLists) {xs ys zs us : List ℕ} → xs ≡ upTo 0 (t .credential) → ys ≡ upTo 0 (t .first) → zs ≡ upTo 0 (t .second) → us ≡ upTo 0 (t .sets) → stepLists xs ys zs us ≡ zeros t
-cleared t a b c d i = stepLists (clear (t .credential) a i) (clear (t .first) b i) (clear (t .second) c i) (clear (t .sets) d i)
-
-abbrev levelIn : Outcome Counts → ℕ
-levelIn (done c) = c .level
-levelIn (refused n p) = 0
+use Rattle.querying.specs.Working.{stepCount, Proves}
+use Rattle.querying.proofs.Refusals.{reply-bound}
 
 no-refusal : {A : Type 0} {n p : ℕ} {c : A} → refused n p ≡ done c → ⊥
 no-refusal e = let z : _≡_ {A = ℕ} 0 1 = cc in absurd (omega arith)
 
--- ---- 10, 13 or a level, and with it a step count
+-- ---- what keeping the entry found takes
 
-says-found : (g : Found) → g .number ≡ 0 → saysFound g ≡ done (g .level)
-says-found g z = ap (λ (b : Bool). if b (done (g .level)) (refused (g .number) 0)) (eq-eqb (g .number) 0 z)
+-- derived entries cite entries before them
+pub citing : {cs : List Credential} {m : ℕ} {keys notes : List ℕ} {n : ℕ} → Derivation cs m keys notes n → Citing notes n
+citing {cs} {m} {keys} {notes} {n} d i h =
+    let e = d .derived i h in
+    let b = credentialAt cs (word notes i 0) .statement .body in
+    (low (citesFirst b) (word notes i 1) (e .firsts) (e .holds .first), low (citesSecond b) (word notes i 2) (e .seconds) (e .holds .second))
+  where
+    low : (c : Bool) (w : ℕ) → c ≡ ltb 0 w → Citable c i (w - 1) → w ≤ i
+    low c zero e k = omega arith
+    low true (suc w) e k = let l : suc w - 1 < i = k in omega arith
+    low false (suc w) e k = absurd (subst⁻¹ T e (lt→ltb 0 (suc w) (omega arith)))
 
-says-refused : (g : Found) → (g .number ≡ 0 → ⊥) → saysFound g ≡ refused (g .number) 0
-says-refused g h = ap (λ (b : Bool). if b (done (g .level)) (refused (g .number) 0)) (ne-eqb (g .number) 0 h)
-
--- 10 where `full`, 13 where not `known`, as the rows give them
-abbrev byRows : {A : Type 0} → Bool → Bool → A → Outcome A
-byRows full known a = elim full [ true ↦ refused 10 0 | false ↦ elim (not known) [ true ↦ refused 13 0 | false ↦ done a ] ]
+-- ---- the reply is a level with a step count, or the same refusal
 
 abbrev withSteps : Outcome ℕ → ℕ → Outcome Counts
 withSteps (done level) n = done (counts n level)
 withSteps (refused number place) n = refused number place
 
-rows-same : (full known : Bool) (n level : ℕ) → byRows full known (counts n level) ≡ withSteps (byRows full known level) n
-rows-same true known n level = refl
-rows-same false true n level = refl
-rows-same false false n level = refl
+first-with : (rows : List RefusalRow) (level n : ℕ) → first rows (counts n level) ≡ withSteps (first rows level) n
+first-with [] level n = refl
+first-with (r ∷ rows) level n = go (r .holds) (first-with rows level n)
+  where
+    go : (b : Bool) → first rows (counts n level) ≡ withSteps (first rows level) n
+        → _≡_ {A = Outcome Counts} (elim b [ true ↦ refused (r .number) (r .place) | false ↦ first rows (counts n level) ]) (withSteps (elim b [ true ↦ refused (r .number) (r .place) | false ↦ first rows level ]) n)
+    go true e = refl
+    go false e = e
 
-rows-refuse : (full known : Bool) (level number : ℕ) → refused number 0 ≡ byRows full known level → (number ≡ 10) ⊎ (number ≡ 13)
-rows-refuse true known level number e = inl cc
-rows-refuse false true level number e = absurd (no-refusal e)
-rows-refuse false false level number e = inr cc
+says-found : (g : Found) → g .number ≡ 0 → saysFound g ≡ done (g .level)
+says-found g z = ap (λ (b : Bool). if b (done (g .level)) (refused (g .number) (g .place))) (eq-eqb (g .number) 0 z)
 
--- ---- the whole call
+says-refused : (g : Found) → (g .number ≡ 0 → ⊥) → saysFound g ≡ refused (g .number) (g .place)
+says-refused g h = ap (λ (b : Bool). if b (done (g .level)) (refused (g .number) (g .place))) (ne-eqb (g .number) 0 h)
 
-module _ (f : Source) (q : Request) (t : StepLists) where
-  abbrev leftBy : Outcome Counts → List Step → StepLists
-  leftBy o ss =
-      stepLists (left o (t .credential) (words (λ s. s .credential) (size t) ss)) (left o (t .first) (words (λ s. s .first) (size t) ss))
-      (left o (t .second) (words (λ s. s .second) (size t) ss)) (left o (t .sets) (words (λ s. s .set) (size t) ss))
+abbrev levelIn : Outcome Counts → ℕ
+levelIn (done c) = c .level
+levelIn (refused n p) = 0
 
-  by-reply : (o : Outcome Counts) (ss : List Step) → replyWith f q t ss ≡ o → queryEnding o (leftBy o ss) ≡ querying f q t ss
+module _ (f : Source) (q : Request) (t : StepLists) {keys notes : List ℕ} {g : Found} (w : Finds f q t keys notes g) where
+  reply-with : (ss : List Step) → replyWith f q t ss ≡ withSteps (saysFound g) (length ss)
+  unfolding replyWith
+  reply-with ss =
+      first-with (asking f q t ++ (minuteFullRow f q (size t) ∷ noneRow f q ∷ [])) (levelFor f q) (length ss) ∙ ap (λ (o : Outcome ℕ). withSteps o (length ss)) (sym (w .reply))
+
+  pub proves-refused : (g .number ≡ 0 → ⊥) → {o : Outcome Counts} → o ≡ refused (g .number) (g .place) → {keys′ notes′ : List ℕ} → Proves f q t keys′ notes′ o
+  proves-refused h e =
+      record {
+        steps = [];
+        says = e ∙ sym (reply-with [] ∙ ap (λ (o : Outcome ℕ). withSteps o 0) (says-refused g h));
+        handed = λ c d. absurd (no-refusal (sym e ∙ d));
+        places = λ c d. absurd (no-refusal (sym e ∙ d));
+        asks = λ c d. absurd (no-refusal (sym e ∙ d));
+      }
+
+  module _ (z : g .number ≡ 0) (small : q .set < 2 ^ 32) {keys′ notes′ : List ℕ} {k : ℕ} (a : Keeps keys notes (g .entry) keys′ notes′ k) {o : Outcome Counts} (e : o ≡ done (counts k (g .level))) where
+    s : Shows (credentials f) (q .minute) (q .role) (q .set) (size t) keys notes (g .entry) (g .level)
+    s = w .shows z
+
+    abbrev ss : List Step
+    ss = stepsIn keys′ notes′ k
+
+    handed : HandedOut (credentials f) (q .minute) (q .role) (q .set) (g .level) ss
+    handed =
+        subst (λ (j : ℕ). HandedOut (credentials f) (q .minute) (q .role) (q .set) j ss) (sym (s .level))
+        (subst (λ (X : ℕ). HandedOut (credentials f) (q .minute) (q .role) X (levelOf notes (g .entry)) ss) (ap setIn (s .key) ∙ set-of-key (q .role) (q .set) small)
+        (subst (λ (R : ℕ). HandedOut (credentials f) (q .minute) R (setIn (getD keys (g .entry) 0)) (levelOf notes (g .entry)) ss) (ap roleIn (s .key) ∙ role-of-key (q .role) (q .set) small)
+        (a .handed (credentials f) (q .minute) (s .derivation))))
+
+    pub proves-proof : Proves f q t keys′ notes′ o
+    proves-proof =
+        record {
+          steps = ss;
+          says = e ∙ sym (reply-with ss ∙ ap (λ (o : Outcome ℕ). withSteps o (length ss)) (says-found g z) ∙ ap (λ (n : ℕ). done (counts n (g .level))) (steps-count keys′ notes′ k));
+          handed = λ c d. (subst (λ (j : ℕ). HandedOut (credentials f) (q .minute) (q .role) (q .set) j ss) (ap levelIn (sym e ∙ d)) handed, omega (arith, steps-count keys′ notes′ k, a .few, s .low .0));
+          places = λ c d. let n : k ≡ c .steps = ap stepCount (sym e ∙ d) in (ap (stepsIn keys′ notes′) n, omega (arith, a .few, s .low .1));
+          asks = λ c d. w .asks z;
+        }
+
+-- ---- the lists
+
+left-kept : (o : Outcome Counts) (before written : List ℕ) → writes o ≡ false → left o before written ≡ before
+left-kept (done c) before written w = absurd (subst T w tt)
+left-kept (refused n p) before written w = ap (λ (b : Bool). if b (replicate (length before) 0) before) w
+
+no-steps : (keys notes : List ℕ) → stepsIn keys notes 0 ≡ []
+unfolding stepsIn
+no-steps keys notes = refl
+
+-- a list with the words of the steps, or with zeros
+column : (keys notes : List ℕ) (size : ℕ) (o : Outcome Counts) → writes o ≡ true → (field : Step → ℕ) (l l′ : List ℕ) (ss : List Step)
+    → ((c : Counts) → o ≡ done c → (ss ≡ stepsIn keys notes (c .steps)) × (length l ≡ size)) → l′ ≡ words field (length l) (stepsIn keys notes (stepCount o)) → l′ ≡ left o l (words field size ss)
+column keys notes size (done c) w field l l′ ss h e = e ∙ (λ u. words field (h c refl .1 u) (sym (h c refl .0) u))
+column keys notes size (refused n p) w field l l′ ss h e =
+    let z : length l - 0 ≡ length l = omega arith in
+    e ∙ ap (words field (length l)) (no-steps keys notes) ∙ ap (λ (k : ℕ). replicate k 0) z ∙ sym (ap (λ (b : Bool). if b (replicate (length l) 0) l) w)
+
+module _ (f : Source) (q : Request) (t : StepLists) {keys notes : List ℕ} {o : Outcome Counts} (p : Proves f q t keys notes o) where
+  abbrev leftBy : Outcome Counts → StepLists
+  leftBy o =
+      stepLists (left o (t .credential) (words (λ s. s .credential) (size t) (p .steps))) (left o (t .first) (words (λ s. s .first) (size t) (p .steps)))
+      (left o (t .second) (words (λ s. s .second) (size t) (p .steps))) (left o (t .sets) (words (λ s. s .set) (size t) (p .steps)))
+
+  by-reply : queryEnding o (leftBy o) ≡ querying f q t (p .steps)
   unfolding querying
-  by-reply o ss e = sym (ap (λ (x : Outcome Counts). queryEnding x (leftBy x ss)) e)
+  by-reply = ap (λ (x : Outcome Counts). queryEnding x (leftBy x)) (p .says)
 
-  module _ (r : Refusal) (e : r ≡ firstRefusal (asking f q t)) where
-    -- refused before the search
-    pub request-refused : (r .number ≡ 0 → ⊥) → Queried f q t (refused (r .number) (r .place)) t
-    unfolding replyWith
-    request-refused h = record {
-      steps = [];
-      ends =
-          (λ i. queryEnding (refused (r .number) (r .place)) (stepLists
-          (sym (left-same (r .number) (r .place) (t .credential) (words (λ s. s .credential) (size t) []) no-10 no-13) i)
-          (sym (left-same (r .number) (r .place) (t .first) (words (λ s. s .first) (size t) []) no-10 no-13) i)
-          (sym (left-same (r .number) (r .place) (t .second) (words (λ s. s .second) (size t) []) no-10 no-13) i)
-          (sym (left-same (r .number) (r .place) (t .sets) (words (λ s. s .set) (size t) []) no-10 no-13) i)))
-          ∙ by-reply (refused (r .number) (r .place)) [] (asked-refused f q t r e h (minuteFullRow f q (size t) ∷ noneRow f q ∷ []) (counts 0 (levelFor f q)));
-      handed = λ c d. absurd (no-refusal d);
-    }
-      where
-        no-10 : r .number ≡ 10 → ⊥
-        no-10 = asked-not f q t r e h 10 tt
+  pub queried-kept : writes o ≡ false → Queried f q t o t
+  queried-kept w =
+      record {
+        steps = p .steps;
+        ends =
+            (λ u. queryEnding o (stepLists (sym (left-kept o (t .credential) (words (λ s. s .credential) (size t) (p .steps)) w) u) (sym (left-kept o (t .first) (words (λ s. s .first) (size t) (p .steps)) w) u)
+            (sym (left-kept o (t .second) (words (λ s. s .second) (size t) (p .steps)) w) u) (sym (left-kept o (t .sets) (words (λ s. s .set) (size t) (p .steps)) w) u)))
+            ∙ by-reply;
+        handed = p .handed;
+        bounded = λ c d. reply-bound f q t (p .steps) c (sym (p .says) ∙ d);
+      }
 
-        no-13 : r .number ≡ 13 → ⊥
-        no-13 = asked-not f q t r e h 13 tt
+  -- what writing takes: places in every list for the steps
+  pub steps-fit : {n : ℕ} → n ≡ stepCount o → (n ≤ length (t .credential)) × (n ≤ length (t .first)) × (n ≤ length (t .second)) × (n ≤ length (t .sets)) × (n ≤ 1024)
+  steps-fit {n} e = go o refl e
+    where
+      go : (x : Outcome Counts) → o ≡ x → n ≡ stepCount x → (n ≤ length (t .credential)) × (n ≤ length (t .first)) × (n ≤ length (t .second)) × (n ≤ length (t .sets)) × (n ≤ 1024)
+      go (done c) d z =
+          let a = same-lengths t (p .asks c d .lists) in
+          let b = p .places c d in
+          let l = p .handed c d .1 in
+          let k : length (p .steps) ≡ c .steps = ap length (b .0) ∙ steps-count keys notes (c .steps) in
+          omega (arith, a .0, a .1, a .2, b .1)
+      go (refused m r) d z = omega arith
 
-    -- the search was by the credentials of the file
-    module _ (judged : r .number ≡ 0) {cs : List Credential} (means : cs ≡ credentials f) {keys notes : List ℕ} {g : Found} (finds : Finds cs (q .minute) (q .role) (q .set) (size t) keys notes g) (small : q .set < 2 ^ 32) where
-      w : Finds (credentials f) (q .minute) (q .role) (q .set) (size t) keys notes g
-      w = subst (λ (cs : List Credential). Finds cs (q .minute) (q .role) (q .set) (size t) keys notes g) means finds
+  pub queried-written : writes o ≡ true → {n : ℕ} → n ≡ stepCount o → {t′ : StepLists}
+      → t′ .credential ≡ words (λ s. s .credential) (length (t .credential)) (stepsIn keys notes n) → t′ .first ≡ words (λ s. s .first) (length (t .first)) (stepsIn keys notes n)
+      → t′ .second ≡ words (λ s. s .second) (length (t .second)) (stepsIn keys notes n) → t′ .sets ≡ words (λ s. s .set) (length (t .sets)) (stepsIn keys notes n)
+      → Queried f q t o t′
+  queried-written w {n} e {t′} a b c d =
+      record {
+        steps = p .steps;
+        ends = (λ u. queryEnding o (stepLists (credential u) (first′ u) (second u) (sets u))) ∙ by-reply;
+        handed = p .handed;
+        bounded = λ c d. reply-bound f q t (p .steps) c (sym (p .says) ∙ d);
+      }
+    where
+      by : (field : Step → ℕ) (l l′ : List ℕ) → l′ ≡ words field (length l) (stepsIn keys notes n) → l′ ≡ words field (length l) (stepsIn keys notes (stepCount o))
+      by field l l′ h = h ∙ ap (λ (x : ℕ). words field (length l) (stepsIn keys notes x)) e
 
-      abbrev full : Bool
-      full = ltb (size t) (length (members (credentials f) (q .minute)))
+      credential : t′ .credential ≡ left o (t .credential) (words (λ s. s .credential) (size t) (p .steps))
+      credential = column keys notes (size t) o w (λ s. s .credential) (t .credential) (t′ .credential) (p .steps) (λ c d. (p .places c d .0, refl)) (by (λ s. s .credential) (t .credential) (t′ .credential) a)
 
-      abbrev known : Bool
-      known = has (member (q .role) (q .set)) (members (credentials f) (q .minute))
+      first′ : t′ .first ≡ left o (t .first) (words (λ s. s .first) (size t) (p .steps))
+      first′ = column keys notes (size t) o w (λ s. s .first) (t .first) (t′ .first) (p .steps) (λ c d. (p .places c d .0, same-lengths t (p .asks c d .lists) .0)) (by (λ s. s .first) (t .first) (t′ .first) b)
 
-      passed : (ss : List Step) → replyWith f q t ss ≡ withSteps (saysFound g) (length ss)
-      unfolding replyWith
-      passed ss =
-          asked-passed f q t r e judged (minuteFullRow f q (size t) ∷ noneRow f q ∷ []) (counts (length ss) (levelFor f q))
-          ∙ rows-same full known (length ss) (levelFor f q) ∙ sym (ap (λ (o : Outcome ℕ). withSteps o (length ss)) (w .reply))
+      second : t′ .second ≡ left o (t .second) (words (λ s. s .second) (size t) (p .steps))
+      second = column keys notes (size t) o w (λ s. s .second) (t .second) (t′ .second) (p .steps) (λ c d. (p .places c d .0, same-lengths t (p .asks c d .lists) .1)) (by (λ s. s .second) (t .second) (t′ .second) c)
 
-      -- 10 or 13
-      which : (g .number ≡ 0 → ⊥) → (g .number ≡ 10) ⊎ (g .number ≡ 13)
-      which h = rows-refuse full known (levelFor f q) (g .number) (sym (says-refused g h) ∙ w .reply)
-
-      pub queried : {reply : Outcome Counts} {t′ : StepLists} → HandsOut keys notes g t reply t′ → Queried f q t reply t′
-      queried {reply} {t′} (none h o z) =
-          subst⁻¹ (λ (x : Outcome Counts). Queried f q t x t′) o
-          (subst⁻¹ (Queried f q t (refused (g .number) 0)) z
-          record {
-            steps = [];
-            ends =
-                (λ i. queryEnding (refused (g .number) 0) (stepLists
-                (sym (left-zeros (g .number) 0 (t .credential) (words (λ s. s .credential) (size t) []) (which h)) i)
-                (sym (left-zeros (g .number) 0 (t .first) (words (λ s. s .first) (size t) []) (which h)) i)
-                (sym (left-zeros (g .number) 0 (t .second) (words (λ s. s .second) (size t) []) (which h)) i)
-                (sym (left-zeros (g .number) 0 (t .sets) (words (λ s. s .set) (size t) []) (which h)) i)))
-                ∙ by-reply (refused (g .number) 0) [] (passed [] ∙ ap (λ (o : Outcome ℕ). withSteps o 0) (says-refused g h));
-            handed = λ c d. absurd (no-refusal d);
-          })
-      queried {reply} {t′} (proof z k o a) =
-          subst⁻¹ (λ (x : Outcome Counts). Queried f q t x t′) o
-          record {
-            steps = a .steps;
-            ends =
-                (λ i. queryEnding (done (counts k (g .level))) (stepLists (a .byCredential i) (a .byFirst i) (a .bySecond i) (a .bySet i)))
-                ∙ by-reply (done (counts k (g .level))) (a .steps)
-                (passed (a .steps) ∙ ap (λ (o : Outcome ℕ). withSteps o (length (a .steps))) (says-found g z) ∙ ap (λ (n : ℕ). done (counts n (g .level))) (sym (a .count)));
-            handed = λ c d. (
-              subst (λ (j : ℕ). HandedOut (credentials f) (q .minute) (q .role) (q .set) j (a .steps)) (sym (s .level) ∙ ap levelIn d)
-                  (subst (λ (X : ℕ). HandedOut (credentials f) (q .minute) (q .role) X (levelOf notes (g .entry)) (a .steps)) (ap setIn (s .key) ∙ set-of-key (q .role) (q .set) small)
-                  (subst (λ (R : ℕ). HandedOut (credentials f) (q .minute) R (setIn (getD keys (g .entry) 0)) (levelOf notes (g .entry)) (a .steps)) (ap roleIn (s .key) ∙ role-of-key (q .role) (q .set) small)
-                  (a .handed (credentials f) (q .minute) (s .derivation)))),
-              omega (arith, a .count, a .few, s .low),
-            );
-          }
-        where
-          s : Shows (credentials f) (q .minute) (q .role) (q .set) (size t) keys notes (g .entry) (g .level)
-          s = w .shows z
+      sets : t′ .sets ≡ left o (t .sets) (words (λ s. s .set) (size t) (p .steps))
+      sets = column keys notes (size t) o w (λ s. s .set) (t .sets) (t′ .sets) (p .steps) (λ c d. (p .places c d .0, same-lengths t (p .asks c d .lists) .2)) (by (λ s. s .set) (t .sets) (t′ .sets) d)

@@ -56,11 +56,16 @@ querying f q t ss =
     (left (replyWith f q t ss) (t .second) (words (λ s. s .second) (size t) ss))
     (left (replyWith f q t ss) (t .sets) (words (λ s. s .set) (size t) ss)))
 
+-- a level is at most the number of memberships at the minute, which is at most L, at most 1,024 (document 02, Five)
+abbrev pub Bounded : Source → Request → ℕ → ℕ → Type 0
+Bounded f q L level = (level ≤ length (members (credentials f) (q .minute))) × (length (members (credentials f) (q .minute)) ≤ L) × (L ≤ 1024)
+
 -- What is true of a query for every input. The choice of the steps is the one result that document 01 leaves open.
 pub record Queried (f : Source) (q : Request) (t : StepLists) (reply : Outcome Counts) (t′ : StepLists) : Type 0 where
   pub steps : List Step
   pub ends : queryEnding reply t′ ≡ querying f q t steps
   pub handed : (c : Counts) → reply ≡ done c → HandedOut (credentials f) (q .minute) (q .role) (q .set) (c .level) steps × (length steps ≤ size t)
+  pub bounded : (c : Counts) → reply ≡ done c → Bounded f q (size t) (c .level)
 
 -- document 01's number and values for each case of the answer
 abbrev pub saysAnswer : Answer → Outcome Counts

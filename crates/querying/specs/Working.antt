@@ -1,25 +1,25 @@
--- What handing out the proof of an entry takes and leaves.
+-- What the proof of a request comes to before it is written into lists.
 use mathlib.Core.Path.{_≡_}
 use mathlib.Core.List.{List}
-use Prim.Native.Nat.{ℕ, suc, _<_}
-use lib.ListN.{length, replicate}
+use Prim.Native.Nat.{ℕ, _≤_}
+use lib.ListN.{length}
+use Rattle.meaning.specs.Proofs.{Step}
 use Rattle.file.specs.Refusals.{Outcome, done, refused}
-use Rattle.finding.specs.declared.Found.{Found}
-use Rattle.asking.specs.Asking.{StepLists, stepLists, size}
-use Rattle.answering.specs.Answering.{Citing, Answered}
-use Rattle.querying.specs.Querying.{Counts, counts}
+use Rattle.withdrawals.specs.Source.{Source, credentials}
+use Rattle.asking.specs.Asking.{Request, StepLists, size, Askable}
+use Rattle.derivation.specs.HandedOut.{HandedOut}
+use Rattle.answering.specs.Steps.{stepsIn}
+use Rattle.querying.specs.Querying.{Counts, replyWith}
 
--- entry x can be written as a proof into lists of L places
-pub record Writable (keys notes : List ℕ) (x L : ℕ) : Type 0 where
-  pub room : (length keys ≡ 1024) × (length notes ≡ 4096)
-  pub citing : Citing notes (suc x)
-  pub low : x < L
+-- how many steps a reply has, none for a refusal
+abbrev pub stepCount : Outcome Counts → ℕ
+stepCount (done c) = c .steps
+stepCount (refused n p) = 0
 
--- the lists t, with zeros in all places
-abbrev pub zeros : StepLists → StepLists
-zeros t = stepLists (replicate (length (t .credential)) 0) (replicate (length (t .first)) 0) (replicate (length (t .second)) 0) (replicate (length (t .sets)) 0)
-
--- the refusal with the lists cleared, or the proof of the entry found with its step count and level
-pub data HandsOut (keys notes : List ℕ) (f : Found) (t : StepLists) (reply : Outcome Counts) (t′ : StepLists) : Type 0 where
-  none : (f .number ≡ 0 → ⊥) → reply ≡ refused (f .number) 0 → t′ ≡ zeros t → HandsOut keys notes f t reply t′
-  proof : f .number ≡ 0 → (steps : ℕ) → reply ≡ done (counts steps (f .level)) → Answered keys notes (f .entry) (size t) (t′ .credential) (t′ .first) (t′ .second) (t′ .sets) steps → HandsOut keys notes f t reply t′
+-- The reply to a request with lists t; the steps of a proof are the first places of keys and notes.
+pub record Proves (f : Source) (q : Request) (t : StepLists) (keys notes : List ℕ) (reply : Outcome Counts) : Type 0 where
+  pub steps : List Step
+  pub says : reply ≡ replyWith f q t steps
+  pub handed : (c : Counts) → reply ≡ done c → HandedOut (credentials f) (q .minute) (q .role) (q .set) (c .level) steps × (length steps ≤ size t)
+  pub places : (c : Counts) → reply ≡ done c → (steps ≡ stepsIn keys notes (c .steps)) × (c .steps ≤ 1024)
+  pub asks : (c : Counts) → reply ≡ done c → Askable f q t

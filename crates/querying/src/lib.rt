@@ -1,13 +1,11 @@
 // Querying: a proof of least level for one role, set and minute, or a refusal.
 ghost use mathlib.Core.Path.{_≡_};
-ghost use Prim.Native.Nat.{_≤_};
-ghost use lib.ListN.{length};
-ghost use Rattle.file.specs.Refusals.{refused};
-ghost use Rattle.asking.specs.Asking.{request, stepLists};
+ghost use lib.ListN.{replicate};
+ghost use Rattle.file.specs.Refusals.{done, refused, writes};
+ghost use Rattle.asking.specs.Asking.{request, StepLists, stepLists, Sized};
 ghost use Rattle.withdrawals.specs.Source.{_without_};
-ghost use Rattle.querying.specs.Querying.{Queried, saysAnswer};
-ghost use Rattle.querying.specs.Working.{Writable, HandsOut};
-use finding::Found;
+ghost use Rattle.querying.specs.Querying.{counts, Queried, saysAnswer};
+ghost use Rattle.querying.specs.Working.{Proves, stepCount};
 
 // How many steps the proof has, and its level; or a refusal.
 pub enum Answer {
@@ -29,9 +27,56 @@ pub fn query(
 ) -> Answer
     ensures { λ r. ⌜ Queried (now (file .entry) without now (withdrawals .entry)) (request role set minute) (stepLists (now (credential .entry)) (now (first .entry)) (now (second .entry)) (now (sets .entry))) (saysAnswer r) (stepLists (now (credential .exit)) (now (first .exit)) (now (second .exit)) (now (sets .exit))) ⌝ }
 {
-    let mut policy = policy::room();
-    let j = asking::judge(
-        &mut policy,
+    let mut keys = store::room_for_keys();
+    let mut notes = store::room_for_notes();
+    let answer = prove(
+        &mut keys,
+        &mut notes,
+        file,
+        withdrawals,
+        role,
+        set,
+        minute,
+        credential.len(),
+        first.len(),
+        second.len(),
+        sets.len(),
+    );
+    if !lists_written(answer) {
+        return answer;
+    }
+    answering::write(
+        credential,
+        first,
+        second,
+        sets,
+        &keys,
+        &notes,
+        steps_of(answer),
+    );
+    answer
+}
+
+// A proof of the membership at the minute for lists of so many steps: its steps are then the first places of keys and notes, which are zeros before.
+pub fn prove(
+    keys: &mut [u64; 1024],
+    notes: &mut [u16; 3072],
+    file: &[u8],
+    withdrawals: &[u8],
+    role: u32,
+    set: u32,
+    minute: u32,
+    credential: usize,
+    first: usize,
+    second: usize,
+    sets: usize,
+) -> Answer
+    requires { ⌜ (now keys ≡ replicate 1024 0) × (now notes ≡ replicate 3072 0) ⌝ }
+    ensures { λ r. ⌜ ((t : StepLists) → Sized t credential first second sets → Proves (now (file .entry) without now (withdrawals .entry)) (request role set minute) t (now (keys .exit)) (now (notes .exit)) (saysAnswer r)) ⌝ }
+{
+    let found = finding::find(
+        keys,
+        notes,
         file,
         withdrawals,
         role,
@@ -42,46 +87,42 @@ pub fn query(
         second,
         sets,
     );
-    if j.number != 0 {
-        return refused(j.number, j.place);
+    if found.number != 0 {
+        return refused(found.number, found.place);
     }
-    let mut keys = store::room_for_keys();
-    let mut notes = store::room_for_notes();
-    let found = finding::find(
-        &mut keys,
-        &mut notes,
-        &policy,
-        j.credentials,
-        role,
-        set,
-        minute,
-        credential.len(),
-    );
-    hand_out(credential, first, second, sets, &keys, &notes, found)
+    let count = answering::keep(keys, notes, found.entry);
+    proof(count as u32, found.level)
 }
 
-// Writes the proof of the entry found, with its step count and level; after 10 and 13, zeros.
-fn hand_out(
-    credential: &mut [u32],
-    first: &mut [u32],
-    second: &mut [u32],
-    sets: &mut [u32],
-    keys: &[u64; 1024],
-    notes: &[u16; 4096],
-    found: Found,
-) -> Answer
-    requires { ⌜ (length (now first) ≡ length (now credential)) × (length (now second) ≡ length (now credential)) × (length (now sets) ≡ length (now credential)) × (length (now credential) ≤ 1024) ⌝ ∗ ⌜ (found .number ≡ 0 → Writable (now keys) (now notes) (found .entry) (length (now credential))) ⌝ }
-    ensures { λ r. ⌜ HandsOut (now (keys .entry)) (now (notes .entry)) found (stepLists (now (credential .entry)) (now (first .entry)) (now (second .entry)) (now (sets .entry))) (saysAnswer r) (stepLists (now (credential .exit)) (now (first .exit)) (now (second .exit)) (now (sets .exit))) ⌝ }
+// Whether the lists are written: with a proof, or with zeros after 10 and 13.
+pub fn lists_written(answer: Answer) -> bool
+    ensures { λ r. ⌜ r ≡ writes (saysAnswer answer) ⌝ }
 {
-    if found.number != 0 {
-        answering::clear_from(credential, first, second, sets, 0);
-        return refused(found.number, 0);
+    match answer {
+        Answer::Proof { steps: _, level: _ } => true,
+        Answer::Refused { number, place: _ } => (number == 10) | (number == 13),
     }
-    let count = answering::answer(credential, first, second, sets, keys, notes, found.entry);
-    let steps = count as u32;
+}
+
+// How many steps are written.
+pub fn steps_of(answer: Answer) -> usize
+    ensures { λ r. ⌜ r ≡ stepCount (saysAnswer answer) ⌝ }
+{
+    match answer {
+        Answer::Proof { steps, level: _ } => steps as usize,
+        Answer::Refused {
+            number: _,
+            place: _,
+        } => 0,
+    }
+}
+
+fn proof(steps: u32, level: u16) -> Answer
+    ensures { λ r. ⌜ saysAnswer r ≡ done (counts steps level) ⌝ }
+{
     Answer::Proof {
         steps,
-        level: found.level,
+        level: level as u32,
     }
 }
 

@@ -9,13 +9,12 @@ use lib.Dec.{T}
 use lib.ListN.{length, take, drop, replicate}
 use lib.Seq.{take-length, drop-length, length-take-le, length-front, take-at}
 use Rattle.meaning.specs.Lists.{if}
-use Rattle.file.specs.Refusals.{Outcome, done, refused, left}
+use Rattle.file.specs.Refusals.{Outcome, done, refused, left, writes}
 use Rattle.codec.specs.Bytes.{bytesOf}
 use Rattle.codec.proofs.Entries.{bytesOf-zeros}
-use Rattle.replies.specs.Replies.{writes}
 
 -- entries that were written or cleared, as bytes
-left-written : {A : Type 0} (k : ℕ) (o : Outcome A) (before list written : List ℕ) → writes o ≡ true → length before ≡ k * length list
+pub left-written : {A : Type 0} (k : ℕ) (o : Outcome A) (before list written : List ℕ) → writes o ≡ true → length before ≡ k * length list
     → bytesOf k (left o list written) ≡ left o before (bytesOf k written)
 left-written k (done a) before list written w e = refl
 left-written k (refused n p) before list written w e = rw w (bytesOf-zeros k (length list) ∙ ap (λ (m : ℕ). replicate m 0) (sym e))

@@ -6,13 +6,12 @@ use Prim.Native.Nat.{ℕ, _+_, _*_}
 use lib.Dec.{T, eqb, T-not}
 use Rattle.meaning.specs.Lists.{all, each, below}
 use Rattle.meaning.proofs.Tests.{and-left, and-right, is-false}
-use Rattle.file.specs.Refusals.{RefusalRow, Outcome, refused, first, _when_}
+use Rattle.file.specs.Refusals.{RefusalRow, Outcome, refused, first, _when_, writes}
 use Rattle.file.specs.Reading.{headRows, checkRows, credentialsRows}
 use Rattle.withdrawals.specs.Source.{Source, N, listRows, endsRow, reading}
 use Rattle.ends.specs.declared.Ends.{Ends}
 use Rattle.ends.specs.Ends.{endsIn}
 use Rattle.asking.proofs.Asked.{all-append}
-use Rattle.replies.specs.Replies.{writes}
 use Rattle.replies.specs.Interface.{word, notWhole}
 use Rattle.replies.proofs.Files.{refused-first, accepted-first, ends-refused, ends-accepted}
 

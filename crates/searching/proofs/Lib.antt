@@ -4,3 +4,4 @@ pub mod Sources
 pub mod Reaching
 pub mod Counting
 pub mod Searches
+pub mod Loads

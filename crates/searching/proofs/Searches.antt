@@ -15,7 +15,7 @@ use Rattle.policy.proofs.Policies.{length-of, credential-of, decoded-fits}
 use Rattle.store.specs.Entries.{keyOf, roleIn, setIn}
 use Rattle.store.specs.Notes.{word, levelOf, Leveled}
 use Rattle.store.proofs.Chains.{equal-or-not, below-or-not}
-use Rattle.store.proofs.Notes.{word-same, level-same, level-by-none}
+use Rattle.store.proofs.Notes.{leveled-back, level-same, level-by-none}
 use Rattle.store.proofs.Stores.{distinct-keys}
 use Rattle.heads.specs.Gaining.{Kept, Gains}
 use Rattle.heads.proofs.Gaining.{over-more}
@@ -97,6 +97,8 @@ module _ (p : List ℕ) (n : ℕ) (es : List ℕ) (d : Decoded p n) where
         record {
           stored = λ o. absurd (omega arith);
           room = λ o. absurd (omega arith);
+          leveled = λ o. absurd (omega arith);
+          rising = λ o. absurd (omega arith);
           derivation = λ o. absurd (omega arith);
           complete = λ o. absurd (omega arith);
           over = λ _. too-many limit (loaded p n es 1 d u g .over l);
@@ -130,7 +132,7 @@ module _ (p : List ℕ) (n : ℕ) (es : List ℕ) (d : Decoded p n) where
                 let k = keyOf (st .head) X in
                 let w : States (st .body) (st .head) k = subst⁻¹ (λ (e : Body). States e (st .head) k) q refl in
                 let h = g .exact few k 0 .1 (inr (t .place, t .low, (subst (λ (y : Statement). States (y .body) (y .head) k) (t .is) w, t .during))) in
-                let o = level-same notes notes′ count (f .notesSame l) (h .0) (h .1) in
+                let o = level-same notes notes′ count (f .notesSame l) (leveled-back notes count (g .kept few .leveled)) (h .0) (h .1) in
                 let z = level-one (h .0) (h .1) in
                 (h .0, omega (arith, h .1, f .more l), f .keysSame l (h .0) (h .1) ∙ h .2, omega arith)
 
@@ -143,7 +145,7 @@ module _ (p : List ℕ) (n : ℕ) (es : List ℕ) (d : Decoded p n) where
                 go : (i < count) ⊎ (count ≤ i) → Derived cs m keys′ notes′ i
                 go (inl b) =
                     fact-derived keys′ notes′ i (k .leveled i o)
-                    (rw (f .keysSame l i b, word-same notes notes′ count (f .notesSame l) i 0 b (omega arith), word-same notes notes′ count (f .notesSame l) i 1 b (omega arith), word-same notes notes′ count (f .notesSame l) i 2 b (omega arith)) (g .noted few .by i (omega arith) b))
+                    (rw (f .keysSame l i b, f .notesSame l i 0 b (omega arith), f .notesSame l i 1 b (omega arith), f .notesSame l i 2 b (omega arith)) (g .noted few .by i (omega arith) b))
                 go (inr b) = noted-derived keys′ notes′ i (k .leveled i o) u (λ j h. k .stored .roles j (omega arith)) (f .noted l i b o)
 
           pub searched : Searched cs m limit keys′ slots′ notes′ r
@@ -151,6 +153,8 @@ module _ (p : List ℕ) (n : ℕ) (es : List ℕ) (d : Decoded p n) where
               record {
                 stored = λ l. (links′, f .held l .kept .stored);
                 room = λ l. f .held l .kept .room .1;
+                leveled = λ l. f .held l .kept .leveled;
+                rising = f .rising;
                 derivation = λ l. record { derived = derived l; distinct = distinct-keys (f .held l .kept .stored) };
                 complete = λ l. all-there (ss 0) keys′ notes′ r (valid-fits cs fits m) (facts l) (f .leveling l ss one-span (loaded p n es 1 d u g .policy) closed);
                 over = λ l. too-many limit (f .over l ss (loaded p n es 1 d u g .policy) closed);

@@ -3,10 +3,10 @@ use mathlib.Core.Path.{_≡_, refl, sym, ap, _∙_, subst}
 use mathlib.Core.Logic.{inl, inr}
 use mathlib.Core.Bool.{Bool, true, false}
 use mathlib.Core.List.{List}
-use Prim.Native.Nat.{ℕ, suc, _+_, _-_, _^_, _<_}
+use Prim.Native.Nat.{ℕ, suc, _+_, _-_, _/_, _%_, _^_, _<_}
 use native.Mathlib.Omega.{arith}
-use borrow.Author.Tests.{lt-ltb, le-ltb}
-use lib.Dec.{T, ltb}
+use borrow.Author.Tests.{lt-ltb, le-ltb, eq-eqb, ne-eqb}
+use lib.Dec.{T, eqb, ltb}
 use lib.ListN.{getD}
 use Rattle.meaning.specs.Lists.{if}
 use Rattle.meaning.specs.Credentials.{Body, covers, Credential}
@@ -145,15 +145,17 @@ module _ {p : List ℕ} {n : ℕ} {es : List ℕ} {count : ℕ} {codes lists : L
         go : (d : Bool) → s .second ≡ d → (at ≡ s .at) × Reason m keys x first second k
         go false z =
             let w : sourceIn lists i ≡ s .at = s .word ∙ ap (λ (d : Bool). sourceOf d (s .at)) z in
-            let l : ltb (sourceIn lists i) 256 ≡ true = lt-ltb (sourceIn lists i) 256 (omega (arith, s .known .1)) in
-            let a : at ≡ s .at = f .credential ∙ ap (λ (d : Bool). if d (sourceIn lists i) (sourceIn lists i - 256)) l ∙ w in
+            let k : sourceIn lists i < 256 = omega (arith, s .known .1) in
+            let l : eqb (sourceIn lists i / 256 % 2) 0 ≡ true = eq-eqb (sourceIn lists i / 256 % 2) 0 (omega arith) in
+            let a : at ≡ s .at = f .credential ∙ omega arith in
             let b : first ≡ suc e = f .cited ∙ ap (λ (d : Bool). if d (suc e) other) l in
             let c : second ≡ other = f .partner ∙ ap (λ (d : Bool). if d other (suc e)) l in
             (a, rw (is, b, c) (first-reason (subst (λ (d : Bool). UsedAs d body′ Ar u) z (s .used))))
         go true z =
             let w : sourceIn lists i ≡ s .at + 256 = s .word ∙ ap (λ (d : Bool). sourceOf d (s .at)) z in
-            let l : ltb (sourceIn lists i) 256 ≡ false = le-ltb (sourceIn lists i) 256 (omega arith) in
-            let a : at ≡ s .at = f .credential ∙ ap (λ (d : Bool). if d (sourceIn lists i) (sourceIn lists i - 256)) l ∙ omega arith in
+            let k : s .at < 256 = omega (arith, s .known .1) in
+            let l : eqb (sourceIn lists i / 256 % 2) 0 ≡ false = ne-eqb (sourceIn lists i / 256 % 2) 0 (λ o. omega arith) in
+            let a : at ≡ s .at = f .credential ∙ omega arith in
             let b : first ≡ other = f .cited ∙ ap (λ (d : Bool). if d (suc e) other) l in
             let c : second ≡ suc e = f .partner ∙ ap (λ (d : Bool). if d other (suc e)) l in
             (a, rw (is, b, c) (second-reason (subst (λ (d : Bool). UsedAs d body′ Ar u) z (s .used))))

@@ -1,5 +1,5 @@
--- How entries came about: levels are low, what `note` writes, and what a change of later places leaves as it is.
-use mathlib.Core.Path.{_≡_, refl, sym, ap, _∙_, subst⁻¹}
+-- How entries came about: an entry is one level above those that it cites, what `note` writes, and what a change of later entries leaves as it is.
+use mathlib.Core.Path.{_≡_, refl, ap, _∙_, subst⁻¹}
 use mathlib.Core.Logic.{_⊎_, inl, inr}
 use mathlib.Core.Bool.{Bool, true, false}
 use mathlib.Core.List.{List}
@@ -11,7 +11,7 @@ use lib.Dec.{ltb}
 use lib.ListN.{length, getD, set, length-set}
 use lib.Seq.{getD-set-same, getD-set-other}
 use Rattle.meaning.specs.Lists.{if}
-use Rattle.store.specs.Notes.{word, levelOf, levelBy, levelAbove, noted, Leveled}
+use Rattle.store.specs.Notes.{word, levelTo, levelOf, levelBy, levelAbove, noted, Leveled, SameWords}
 use Rattle.store.proofs.Chains.{last-or-below}
 
 -- ---- what a word cites
@@ -22,110 +22,109 @@ level-by-none notes w e = simp (le-ltb 0 w (omega arith))
 pub level-by-cited : (notes : List ℕ) (w : ℕ) → (w ≡ 0 → ⊥) → levelBy notes w ≡ levelOf notes (w - 1)
 level-by-cited notes w nz = simp (lt-ltb 0 w (omega arith))
 
--- ---- an entry's level is at most one more than its number
+-- the first n entries cite entries before them
+abbrev pub Back : List ℕ → ℕ → Type 0
+Back notes n = (i : ℕ) → i < n → (word notes i 1 ≤ i) × (word notes i 2 ≤ i)
 
-by-low : (notes : List ℕ) (w : ℕ) → ((i : ℕ) → i < w → levelOf notes i ≤ suc i) → levelBy notes w ≤ w
-by-low notes w low = go (ltb 0 w) refl
+pub leveled-back : (notes : List ℕ) (n : ℕ) → ((i : ℕ) → i < n → Leveled notes i) → Back notes n
+leveled-back notes n all i l = (all i l .first, all i l .second)
+
+-- what a word cites, by two functions that agree below i
+by-word : (f g : ℕ → ℕ) (w i : ℕ) → w ≤ i → ((j : ℕ) → j < i → f j ≡ g j) → if (ltb 0 w) (f (w - 1)) 0 ≡ if (ltb 0 w) (g (w - 1)) 0
+by-word f g w i o h = go (ltb 0 w) refl
   where
-    go : (b : Bool) → ltb 0 w ≡ b → if b (levelOf notes (w - 1)) 0 ≤ w
-    go true e = let l = ltb-true 0 w e in let o = low (w - 1) (omega arith) in omega arith
-    go false e = omega arith
+    go : (c : Bool) → ltb 0 w ≡ c → if c (f (w - 1)) 0 ≡ if c (g (w - 1)) 0
+    go true q = let z = ltb-true 0 w q in h (w - 1) (omega arith)
+    go false q = refl
 
-module _ (notes : List ℕ) (n : ℕ) (all : (i : ℕ) → i < n → Leveled notes i) where
-  lows : (k i : ℕ) → i < k → i < n → levelOf notes i ≤ suc i
-  lows zero i l o = absurd (not-suc-le-zero l)
-  lows (suc k) i l o =
-      let v = all i o in
-      let a = by-low notes (word notes i 1) (λ j m. lows k j (omega (arith, v .first)) (omega (arith, v .first))) in
-      let b = by-low notes (word notes i 2) (λ j m. lows k j (omega (arith, v .second)) (omega (arith, v .second))) in
-      omega (arith, v .first, v .second, v .level)
+-- ---- a level does not depend on how far it is followed, once that is far enough
 
-  pub level-low : (i : ℕ) → i < n → levelOf notes i ≤ suc i
-  level-low i l = lows (suc i) i (omega arith) l
+module _ (notes : List ℕ) (n : ℕ) (back : Back notes n) where
+  any-depth : (d e i : ℕ) → i < n → i < d → i < e → levelTo notes d i ≡ levelTo notes e i
+  unfolding levelTo
+  any-depth zero e i l h k = absurd (not-suc-le-zero h)
+  any-depth (suc d) zero i l h k = absurd (not-suc-le-zero k)
+  any-depth (suc d) (suc e) i l h k =
+      let b = back i l in
+      let same : (j : ℕ) → j < i → levelTo notes d j ≡ levelTo notes e j = λ j o. any-depth d e j (omega arith) (omega arith) (omega arith) in
+      let first = by-word (levelTo notes d) (levelTo notes e) (word notes i 1) i (b .0) same in
+      let second = by-word (levelTo notes d) (levelTo notes e) (word notes i 2) i (b .1) same in
+      λ u. suc (max (first u) (second u))
 
-  pub level-by-low : (w : ℕ) → w ≤ n → levelBy notes w ≤ w
-  level-by-low w h = by-low notes w (λ i l. level-low i (omega arith))
+  -- an entry is one level above those that it cites
+  pub level-above : (i : ℕ) → i < n → levelOf notes i ≡ levelAbove notes (word notes i 1) (word notes i 2)
+  unfolding levelTo
+  level-above i l =
+      let b = back i l in
+      let same : (j : ℕ) → j < i → levelTo notes i j ≡ levelOf notes j = λ j o. any-depth i (suc j) j (omega arith) o (omega arith) in
+      let first = by-word (levelTo notes i) (levelOf notes) (word notes i 1) i (b .0) same in
+      let second = by-word (levelTo notes i) (levelOf notes) (word notes i 2) i (b .1) same in
+      λ u. suc (max (first u) (second u))
 
--- ---- a change of places from 4 * n on
+  pub leveled : (i : ℕ) → i < n → Leveled notes i
+  leveled i l = record { first = back i l .0; second = back i l .1; level = level-above i l }
 
-module _ (notes notes′ : List ℕ) (n : ℕ) (same : (p : ℕ) → p < 4 * n → getD notes′ p 0 ≡ getD notes p 0) where
-  pub word-same : (i k : ℕ) → i < n → k < 4 → word notes′ i k ≡ word notes i k
-  word-same i k l m = same (4 * i + k) (omega arith)
+-- ---- a change of entries from n on
 
-  pub level-same : (i : ℕ) → i < n → levelOf notes′ i ≡ levelOf notes i
-  level-same i l = word-same i 3 l (omega arith)
+module _ (notes notes′ : List ℕ) (n : ℕ) (same : SameWords notes n notes′) where
+  pub back-same : Back notes n → Back notes′ n
+  back-same back i l = (
+    subst⁻¹ (λ (x : ℕ). x ≤ i) (same i 1 l (omega arith)) (back i l .0),
+    subst⁻¹ (λ (x : ℕ). x ≤ i) (same i 2 l (omega arith)) (back i l .1),
+  )
 
-  pub level-by-same : (w : ℕ) → w ≤ n → levelBy notes′ w ≡ levelBy notes w
-  level-by-same w h = go (ltb 0 w) refl
-    where
-      go : (b : Bool) → ltb 0 w ≡ b → if b (levelOf notes′ (w - 1)) 0 ≡ if b (levelOf notes (w - 1)) 0
-      go true e = let l = ltb-true 0 w e in level-same (w - 1) (omega arith)
-      go false e = refl
+  module _ (back : Back notes n) where
+    depth-same : (d i : ℕ) → i < n → levelTo notes′ d i ≡ levelTo notes d i
+    unfolding levelTo
+    depth-same zero i l = refl
+    depth-same (suc d) i l =
+        let b = back i l in
+        let e = same i 1 l (omega arith) in
+        let f = same i 2 l (omega arith) in
+        let cited : (j : ℕ) → j < i → levelTo notes′ d j ≡ levelTo notes d j = λ j o. depth-same d j (omega arith) in
+        let first = by-word (levelTo notes′ d) (levelTo notes d) (word notes i 1) i (b .0) cited in
+        let second = by-word (levelTo notes′ d) (levelTo notes d) (word notes i 2) i (b .1) cited in
+        (λ u. suc (max (if (ltb 0 (e u)) (levelTo notes′ d (e u - 1)) 0) (if (ltb 0 (f u)) (levelTo notes′ d (f u - 1)) 0)))
+        ∙ (λ u. suc (max (first u) (second u)))
 
-  pub above-same : (first second : ℕ) → first ≤ n → second ≤ n → levelAbove notes′ first second ≡ levelAbove notes first second
-  above-same first second h k = λ u. suc (max (level-by-same first h u) (level-by-same second k u))
-
-  -- an entry with words and a level
-  pub leveled-by : (i first second : ℕ) → i ≤ n → word notes′ i 1 ≡ first → word notes′ i 2 ≡ second → levelOf notes′ i ≡ levelAbove notes first second → first ≤ i → second ≤ i → Leveled notes′ i
-  leveled-by i first second l e f g h k =
-      record {
-        first = subst⁻¹ (λ (x : ℕ). x ≤ i) e h;
-        second = subst⁻¹ (λ (x : ℕ). x ≤ i) f k;
-        level = g ∙ sym (above-same first second (omega arith) (omega arith)) ∙ (λ u. levelAbove notes′ (sym e u) (sym f u));
-      }
-
-  pub leveled-same : (i : ℕ) → i < n → Leveled notes i → Leveled notes′ i
-  leveled-same i l v =
-      leveled-by i (word notes i 1) (word notes i 2) (omega arith) (word-same i 1 l (omega arith)) (word-same i 2 l (omega arith)) (level-same i l ∙ v .level) (v .first) (v .second)
+    pub level-same : (i : ℕ) → i < n → levelOf notes′ i ≡ levelOf notes i
+    level-same i l = depth-same (suc i) i l
 
 -- ---- the words of entry n
 
-module _ (notes : List ℕ) (n at first second : ℕ) (room : length notes ≡ 4096) (few : n < 1024) where
+module _ (notes : List ℕ) (n at first second : ℕ) (room : length notes ≡ 3072) (few : n < 1024) where
   abbrev notes′ : List ℕ
   notes′ = noted notes n at first second
 
-  abbrev level : ℕ
-  level = levelAbove notes first second
-
-  pub noted-old : (p : ℕ) → p < 4 * n → getD notes′ p 0 ≡ getD notes p 0
-  noted-old p l =
-      getD-set-other (set (set (set notes (4 * n) at) (4 * n + 1) first) (4 * n + 2) second) (4 * n + 3) p level 0 (λ e. omega arith)
-      ∙ getD-set-other (set (set notes (4 * n) at) (4 * n + 1) first) (4 * n + 2) p second 0 (λ e. omega arith)
-      ∙ getD-set-other (set notes (4 * n) at) (4 * n + 1) p first 0 (λ e. omega arith) ∙ getD-set-other notes (4 * n) p at 0 (λ e. omega arith)
-
-  pub noted-level : levelOf notes′ n ≡ level
-  noted-level = getD-set-same (set (set (set notes (4 * n) at) (4 * n + 1) first) (4 * n + 2) second) (4 * n + 3) level 0 (simp length-set (omega arith))
+  pub noted-old : SameWords notes n notes′
+  noted-old i k l m =
+      getD-set-other (set (set notes n at) (1024 + n) first) (2048 + n) (1024 * k + i) second 0 (λ e. omega arith)
+      ∙ getD-set-other (set notes n at) (1024 + n) (1024 * k + i) first 0 (λ e. omega arith)
+      ∙ getD-set-other notes n (1024 * k + i) at 0 (λ e. omega arith)
 
   pub noted-second : word notes′ n 2 ≡ second
-  noted-second =
-      getD-set-other (set (set (set notes (4 * n) at) (4 * n + 1) first) (4 * n + 2) second) (4 * n + 3) (4 * n + 2) level 0 (λ e. omega arith)
-      ∙ getD-set-same (set (set notes (4 * n) at) (4 * n + 1) first) (4 * n + 2) second 0 (simp length-set (omega arith))
+  noted-second = getD-set-same (set (set notes n at) (1024 + n) first) (2048 + n) second 0 (simp length-set (omega arith))
 
   pub noted-first : word notes′ n 1 ≡ first
   noted-first =
-      getD-set-other (set (set (set notes (4 * n) at) (4 * n + 1) first) (4 * n + 2) second) (4 * n + 3) (4 * n + 1) level 0 (λ e. omega arith)
-      ∙ getD-set-other (set (set notes (4 * n) at) (4 * n + 1) first) (4 * n + 2) (4 * n + 1) second 0 (λ e. omega arith)
-      ∙ getD-set-same (set notes (4 * n) at) (4 * n + 1) first 0 (simp length-set (omega arith))
+      getD-set-other (set (set notes n at) (1024 + n) first) (2048 + n) (1024 + n) second 0 (λ e. omega arith)
+      ∙ getD-set-same (set notes n at) (1024 + n) first 0 (simp length-set (omega arith))
 
   pub noted-at : word notes′ n 0 ≡ at
   noted-at =
-      let e : 4 * n + 0 ≡ 4 * n = omega arith in
+      let e : 1024 * 0 + n ≡ n = omega arith in
       ap (λ (p : ℕ). getD notes′ p 0) e
-      ∙ getD-set-other (set (set (set notes (4 * n) at) (4 * n + 1) first) (4 * n + 2) second) (4 * n + 3) (4 * n) level 0 (λ e. omega arith)
-      ∙ getD-set-other (set (set notes (4 * n) at) (4 * n + 1) first) (4 * n + 2) (4 * n) second 0 (λ e. omega arith)
-      ∙ getD-set-other (set notes (4 * n) at) (4 * n + 1) (4 * n) first 0 (λ e. omega arith)
-      ∙ getD-set-same notes (4 * n) at 0 (omega arith)
+      ∙ getD-set-other (set (set notes n at) (1024 + n) first) (2048 + n) n second 0 (λ e. omega arith)
+      ∙ getD-set-other (set notes n at) (1024 + n) n first 0 (λ e. omega arith)
+      ∙ getD-set-same notes n at 0 (omega arith)
 
-  pub noted-length : length notes′ ≡ 4096
+  pub noted-length : length notes′ ≡ 3072
   noted-length = simp length-set room
-
-  pub noted-leveled : first ≤ n → second ≤ n → Leveled notes′ n
-  noted-leveled h k = leveled-by notes notes′ n noted-old n first second (omega arith) noted-first noted-second noted-level h k
 
   -- with the entries before it
   pub noted-all : first ≤ n → second ≤ n → ((i : ℕ) → i < n → Leveled notes i) → (i : ℕ) → i < n + 1 → Leveled notes′ i
-  noted-all h k all i l = go (last-or-below (omega arith))
+  noted-all h k all = leveled notes′ (n + 1) (λ i l. go i (last-or-below (omega arith)))
     where
-      go : (i ≡ n) ⊎ (i < n) → Leveled notes′ i
-      go (inl e) = subst⁻¹ (λ (x : ℕ). Leveled notes′ x) e (noted-leveled h k)
-      go (inr o) = leveled-same notes notes′ n noted-old i o (all i o)
+      go : (i : ℕ) → (i ≡ n) ⊎ (i < n) → (word notes′ i 1 ≤ i) × (word notes′ i 2 ≤ i)
+      go i (inl e) = subst⁻¹ (λ (x : ℕ). (word notes′ x 1 ≤ x) × (word notes′ x 2 ≤ x)) e (subst⁻¹ (λ (x : ℕ). x ≤ n) noted-first h, subst⁻¹ (λ (x : ℕ). x ≤ n) noted-second k)
+      go i (inr o) = back-same notes notes′ n noted-old (leveled-back notes n all) i o

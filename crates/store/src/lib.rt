@@ -1,10 +1,10 @@
 // The store of completing and querying: entries in the order in which they were found, looked up by key, in lists by role, each with a note of how it came about.
 ghost use mathlib.Core.Path.{_≡_};
 ghost use mathlib.Core.Bool.{true};
-ghost use Prim.Native.Nat.{ℕ, _+_, _<_, _≤_, max};
+ghost use Prim.Native.Nat.{ℕ, _+_, _<_, _≤_};
 ghost use lib.ListN.{length, set, replicate};
 ghost use Rattle.store.specs.Entries.{keyOf, roleIn, setIn, mixed, latestIn, pushed, Searchable, Stored, Leading, At, LookedUp, HasAll, Added};
-ghost use Rattle.store.specs.Notes.{noted, levelBy, Leveled};
+ghost use Rattle.store.specs.Notes.{noted};
 
 // One more than the number of the entry with the key, or 0.
 pub fn entry_of(keys: &[u64; 1024], slots: &[u16; 3072], key: u64) -> usize
@@ -60,16 +60,13 @@ pub fn add(
 }
 
 // Notes how entry n came about.
-pub fn note(notes: &mut [u16; 4096], n: usize, at: u16, first: u16, second: u16)
-    requires { ⌜ (length (now notes) ≡ 4096) × (n < 1024) × (first ≤ n) × (second ≤ n) ⌝ ∗ ⌜ ((i : ℕ) → i < n → Leveled (now notes) i) ⌝ }
+pub fn note(notes: &mut [u16; 3072], n: usize, at: u16, first: u16, second: u16)
+    requires { ⌜ n < 1024 ⌝ }
     ensures { λ _. ⌜ now (notes .exit) ≡ noted (now (notes .entry)) n at first second ⌝ }
 {
-    let level = larger(level_by(notes, first), level_by(notes, second)) + 1;
-    let p = 4 * n;
-    notes[p] = at;
-    notes[p + 1] = first;
-    notes[p + 2] = second;
-    notes[p + 3] = level;
+    notes[n] = at;
+    notes[1024 + n] = first;
+    notes[2048 + n] = second;
 }
 
 // One more than the latest entry of a role, or 0.
@@ -128,10 +125,10 @@ pub fn room_for_links() -> [u16; 2048]
     [0; 2048]
 }
 
-pub fn room_for_notes() -> [u16; 4096]
-    ensures { λ r. ⌜ r ≡ replicate 4096 0 ⌝ }
+pub fn room_for_notes() -> [u16; 3072]
+    ensures { λ r. ⌜ r ≡ replicate 3072 0 ⌝ }
 {
-    [0; 4096]
+    [0; 3072]
 }
 
 // The bits by which a key is looked for.
@@ -180,24 +177,4 @@ fn append(
     slots[p] = (n + 1) as u16;
     links[n] = links[r];
     links[r] = (n + 1) as u16;
-}
-
-// The level of the entry that a word cites, 0 where it cites none.
-fn level_by(notes: &[u16; 4096], w: u16) -> u16
-    requires { ⌜ w ≤ 1024 ⌝ }
-    ensures { λ r. ⌜ r ≡ levelBy (now (notes .entry)) w ⌝ }
-{
-    if w == 0 {
-        return 0;
-    }
-    notes[4 * wide(w) - 1]
-}
-
-fn larger(a: u16, b: u16) -> u16
-    ensures { λ r. ⌜ r ≡ max a b ⌝ }
-{
-    if a < b {
-        return b;
-    }
-    a
 }

@@ -32,7 +32,7 @@ pub record Walked (keys done : List ℕ) (o : Offer) (start : ℕ) (w : List ℕ
   pub none : c ≡ start → count ≡ 0
 
 module _ {keys done : List ℕ} {o : Offer} {start : ℕ} where
-  pub walked-start : {w : List ℕ} → length w ≡ 257 → Walked keys done o start w 0 start
+  pub walked-start : {w : List ℕ} → length w ≡ 97 → Walked keys done o start w 0 start
   walked-start {w} room =
       record {
         waiting = record { room = room; few = omega arith };
@@ -55,7 +55,7 @@ module _ {keys done : List ℕ} {o : Offer} {start : ℕ} where
     pub walked-end : c ≡ 0 → Gathers keys done o start w (record { count = count; at = 0 })
     walked-end e = subst (λ (y : ℕ). Gathers keys done o start w (record { count = count; at = y })) e (gathered (λ nz. omega arith))
 
-    pub walked-full : (c ≡ 0 → ⊥) → count ≡ 64 → Gathers keys done o start w (record { count = 64; at = c })
+    pub walked-full : (c ≡ 0 → ⊥) → count ≡ 24 → Gathers keys done o start w (record { count = 24; at = c })
     walked-full nz e =
         subst (λ (y : ℕ). Gathers keys done o start w (record { count = y; at = c })) e
         (gathered (λ _. let l = k .on nz .0 in let ne : c ≡ start → ⊥ = λ q. omega (arith, k .none q) in omega arith))

@@ -1,4 +1,4 @@
--- Sets that wait in a list of 257 places: place i has the word of a partner × 2 ^ 32 + the set, place 64 + i the spans; the places from 128 on are a tree by which a set is looked for.
+-- Sets that wait in a list of 97 places: place i has the word of a partner × 2 ^ 32 + the set, place 24 + i the spans; the places from 48 on are a tree by which a set is looked for.
 use mathlib.Core.Path.{_≡_}
 use mathlib.Core.Logic.{_⊎_, _↔_}
 use mathlib.Core.List.{List}
@@ -18,17 +18,17 @@ use Rattle.waiting.specs.Pairs.{roleOf, WithPair, Pairing}
 abbrev pub RoleLists : List ℕ → List ℕ → ℕ → Type 0
 RoleLists keys links n = (i : ℕ) → i < n → On (roleOf keys) (roleOf keys i) i (getD links i 0) × ((j : ℕ) → getD links i 0 ≤ j → j < i → roleOf keys j ≡ roleOf keys i → ⊥)
 
--- the list has room, and at most 64 sets wait
+-- the list has room, and at most 24 sets wait
 pub record Waiting (w : List ℕ) (count : ℕ) : Type 0 where
-  pub room : length w ≡ 257
-  pub few : count ≤ 64
+  pub room : length w ≡ 97
+  pub few : count ≤ 24
 
 -- a set that waits, in span s
 pub record Waits (w : List ℕ) (count X s : ℕ) : Type 0 where
   pub place : ℕ
   pub low : place < count
   pub set : X ≡ setIn (getD w place 0)
-  pub spans : bit (getD w (64 + place) 0) s ≡ 1
+  pub spans : bit (getD w (24 + place) 0) s ≡ 1
 
 -- a set that waits, with the word of its partner
 pub record Partnered (w : List ℕ) (count X other : ℕ) : Type 0 where
@@ -45,7 +45,7 @@ pub record Placed (w : List ℕ) (count set r : ℕ) : Type 0 where
 -- only the tree changed
 pub record Settled (w w′ : List ℕ) : Type 0 where
   pub room : length w′ ≡ length w
-  pub same : (i : ℕ) → i < 128 → getD w′ i 0 ≡ getD w i 0
+  pub same : (i : ℕ) → i < 48 → getD w′ i 0 ≡ getD w i 0
 
 -- exactly the set of a pair was added in its spans; a set has the partner that it had, or that of the pair
 pub record United (w : List ℕ) (q : Queue) (x : Pair) (w′ : List ℕ) (q′ : Queue) : Type 0 where

@@ -1,4 +1,4 @@
-// Sets that an entry gives with the entries of a role wait in 64 places, each once with all its spans and its first partner.
+// Sets that an entry gives with the entries of a role wait in 24 places, each once with all its spans and its first partner.
 ghost use mathlib.Core.Path.{_≡_};
 ghost use Prim.Native.Nat.{_<_, _≤_};
 ghost use lib.ListN.{length};
@@ -16,7 +16,7 @@ pub struct Offer {
 pub struct Pair {
     pub set: u64,
     pub spans: u64,
-    pub other: u64,
+    pub other: u16,
 }
 
 // How many sets wait, and where the walk goes on.
@@ -32,10 +32,10 @@ struct Queue {
 }
 
 // Room for sets that wait.
-pub fn room() -> [u64; 257]
-    ensures { λ r. ⌜ length r ≡ 257 ⌝ }
+pub fn room() -> [u64; 97]
+    ensures { λ r. ⌜ length r ≡ 97 ⌝ }
 {
-    [0; 257]
+    [0; 97]
 }
 
 // What entry j gives.
@@ -49,20 +49,20 @@ pub fn pair_at(keys: &[u64; 1024], done: &[u64; 1024], o: Offer, j: usize) -> Pa
     Pair {
         set: pair_set(kind, x, y),
         spans: pair_spans(kind, x, y, o.spans & done[j]),
-        other: (j + 1) as u64,
+        other: (j + 1) as u16,
     }
 }
 
 // Has what entry start - 1 and the entries before it in its role's list give wait, until no place is left or the list ends.
 pub fn gather(
-    waiting: &mut [u64; 257],
+    waiting: &mut [u64; 97],
     keys: &[u64; 1024],
     links: &[u16; 2048],
     done: &[u64; 1024],
     o: Offer,
     start: usize,
 ) -> Gathered
-    requires { ⌜ (length (now waiting) ≡ 257) × (o .set < 4294967296) × (start ≤ 1024) × RoleLists (now keys) (now links) start ⌝ }
+    requires { ⌜ (length (now waiting) ≡ 97) × (o .set < 4294967296) × (start ≤ 1024) × RoleLists (now keys) (now links) start ⌝ }
     ensures { λ r. ⌜ Gathers (now (keys .entry)) (now (done .entry)) o start (now (waiting .exit)) r ⌝ }
 {
     let mut q = Queue { count: 0, last: 0 };
@@ -70,8 +70,8 @@ pub fn gather(
     while at != 0 {
         let x = pair_at(keys, done, o, at - 1);
         if x.spans != 0 {
-            if q.count == 64 {
-                return Gathered { count: 64, at };
+            if q.count == 24 {
+                return Gathered { count: 24, at };
             }
             q = unite(waiting, q, x);
         }
@@ -84,20 +84,20 @@ pub fn gather(
 }
 
 // Joins a set to its equal among those that wait, or gives it a new place.
-fn unite(waiting: &mut [u64; 257], q: Queue, x: Pair) -> Queue
-    requires { ⌜ Waiting (now waiting) (q .count) ⌝ ∗ ⌜ (x .set < 4294967296) × (x .other ≤ 1024) ⌝ ∗ ⌜ (x .spans ≡ 0 → ⊥) × (q .count < 64) ⌝ }
+fn unite(waiting: &mut [u64; 97], q: Queue, x: Pair) -> Queue
+    requires { ⌜ Waiting (now waiting) (q .count) ⌝ ∗ ⌜ (x .set < 4294967296) × (x .other ≤ 1024) ⌝ ∗ ⌜ (x .spans ≡ 0 → ⊥) × (q .count < 24) ⌝ }
     ensures { λ r. ⌜ United (now (waiting .entry)) q x (now (waiting .exit)) r ⌝ }
 {
     let count = q.count;
     let place = place_of(waiting, q, x.set);
     if place < count {
-        waiting[64 + place] = waiting[64 + place] | x.spans;
+        waiting[24 + place] = waiting[24 + place] | x.spans;
         return Queue { count, last: place };
     }
-    waiting[count] = x.other * 4294967296 + x.set;
-    waiting[64 + count] = x.spans;
-    waiting[129 + 2 * count] = 65535;
-    waiting[130 + 2 * count] = 65535;
+    waiting[count] = x.other as u64 * 4294967296 + x.set;
+    waiting[24 + count] = x.spans;
+    waiting[49 + 2 * count] = 65535;
+    waiting[50 + 2 * count] = 65535;
     Queue {
         count: count + 1,
         last: count,
@@ -105,8 +105,8 @@ fn unite(waiting: &mut [u64; 257], q: Queue, x: Pair) -> Queue
 }
 
 // The place of a set among those that wait, or their count: first the place used last is tried.
-fn place_of(waiting: &mut [u64; 257], q: Queue, set: u64) -> usize
-    requires { ⌜ (length (now waiting) ≡ 257) × (q .count < 64) × (set < 4294967296) ⌝ }
+fn place_of(waiting: &mut [u64; 97], q: Queue, set: u64) -> usize
+    requires { ⌜ (length (now waiting) ≡ 97) × (q .count < 24) × (set < 4294967296) ⌝ }
     ensures { λ r. ⌜ Placed (now (waiting .entry)) (q .count) set r ⌝ ∗ ⌜ Settled (now (waiting .entry)) (now (waiting .exit)) ⌝ }
 {
     let last = q.last;
@@ -118,13 +118,13 @@ fn place_of(waiting: &mut [u64; 257], q: Queue, set: u64) -> usize
     search(waiting, q.count, set)
 }
 
-// The place of a set among those that wait, or their count, by the tree in places 128 on, which then leads there. Were an equal set missed, only time would be lost.
-fn search(waiting: &mut [u64; 257], count: usize, set: u64) -> usize
-    requires { ⌜ (length (now waiting) ≡ 257) × (count < 64) × (set < 4294967296) ⌝ }
+// The place of a set among those that wait, or their count, by the tree in places 48 on, which then leads there. Were an equal set missed, only time would be lost.
+fn search(waiting: &mut [u64; 97], count: usize, set: u64) -> usize
+    requires { ⌜ (length (now waiting) ≡ 97) × (count < 24) × (set < 4294967296) ⌝ }
     ensures { λ r. ⌜ Placed (now (waiting .entry)) count set r ⌝ ∗ ⌜ Settled (now (waiting .entry)) (now (waiting .exit)) ⌝ }
 {
     let mut x = set * 2654435761 % 4294967296;
-    let mut p = 128;
+    let mut p = 48;
     let mut left: usize = 33;
     while left != 0 {
         let c = widths::whole(waiting[p]) as usize;
@@ -135,7 +135,7 @@ fn search(waiting: &mut [u64; 257], count: usize, set: u64) -> usize
         if store::set_of(waiting[c]) == set {
             return c;
         }
-        p = 129 + 2 * c + (x / 2147483648) as usize;
+        p = 49 + 2 * c + (x / 2147483648) as usize;
         x = x * 2 % 4294967296;
         left -= 1;
     }

@@ -1,9 +1,9 @@
 -- `complete_bytes::changed` meets its contract.
 use mathlib.Core.Path.{sym, ap, _∙_}
+use Rattle.file.specs.Refusals.{writes}
 use Rattle.meaning.specs.Lists.{if}
 use Rattle.completing.specs.declared.Completed.{Completed}
 use Rattle.completing.specs.Completing.{saysCompleted}
-use Rattle.replies.specs.Replies.{writes}
 use borrow.Author.Needs.{needs}
 use Rattle.complete_bytes.proofs.changed.Statement.{statement}
 use Rattle.complete_bytes.proofs.changed.Tie as tie

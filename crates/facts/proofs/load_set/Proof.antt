@@ -81,7 +81,7 @@ note-requires c κs =
     let t = c .before .before .before in
     let p = start t .pre in
     let last = added-last (p .0) (t .add .ensures) (c .before .before .if2 .left) (c .before .if3 .left) in
-    ((p .0 .room .1, omega (arith, last, c .before .before .if2 .left, p .1 .0 .1), omega arith, omega arith), p .0 .leveled)
+    omega (arith, last, c .before .before .if2 .left, p .1 .0 .1)
 
 returns-4 : tie.Need-returns-4
 returns-4 c =

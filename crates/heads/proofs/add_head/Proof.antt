@@ -51,7 +51,7 @@ note-head-requires : tie.Need-note-head-requires
 note-head-requires c κs =
     let t = c .before .before .before .before in
     let p = start t .pre in
-    ((p .0 .room .1, few t (c .before .before .before .if1 .left) (c .before .before .if2 .left), p .1 .1 .1, p .1 .1 .2), p .0 .leveled)
+    (few t (c .before .before .before .if1 .left) (c .before .before .if2 .left), p .1 .1 .1, p .1 .1 .2)
 
 returns-3 : tie.Need-returns-3
 returns-3 c =

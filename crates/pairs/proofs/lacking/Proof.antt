@@ -1,7 +1,6 @@
 -- `pairs::lacking` gives what the entry gives, unless `has` finds all of it.
 use mathlib.Core.Path.{sym, ap, _∙_, subst, subst⁻¹}
 use Prim.Native.Nat.{_<_}
-use native.Mathlib.Omega.{arith}
 use Rattle.heads.specs.declared.Gift.{Gift}
 use Rattle.heads.proofs.Heads.{bit-left, no-bit}
 use Rattle.waiting.specs.declared.Pair.{Pair}
@@ -18,7 +17,7 @@ has-requires : tie.Need-has-requires
 has-requires c κs = (c .before .pre .0, (c .before .pre .1 .0, c .pair-at .ensures .1))
 
 gift-of-requires : tie.Need-gift-of-requires
-gift-of-requires c κs = omega (arith, ap (λ (x : Pair). x .other) (c .before .before .pair-at .ensures .0), c .before .before .before .pre .1 .2)
+gift-of-requires c κs = tt
 
 returns : tie.Need-returns
 returns c =
@@ -31,7 +30,7 @@ returns c =
     }
 
 gift-of-requires-2 : tie.Need-gift-of-requires-2
-gift-of-requires-2 c κs = omega (arith, ap (λ (x : Pair). x .other) (c .before .before .pair-at .ensures .0), c .before .before .before .pre .1 .2)
+gift-of-requires-2 c κs = tt
 
 returns-2 : tie.Need-returns-2
 returns-2 c =

@@ -50,8 +50,11 @@ element-copy-out-t27 c = omega (arith, c .before .before .loop-test .taken, c .b
 role-of-requires : tie.Need-role-of-requires Inv-loop μ-loop
 role-of-requires c κs = tt
 
+cast-t29 : tie.Need-cast-t29 Inv-loop μ-loop
+cast-t29 c = omega (arith, c .role-of .ensures, start c .pre .1 .1 (looped c .loop .i) (placed c), start c .pre .0 .few)
+
 gift-of-requires : tie.Need-gift-of-requires Inv-loop μ-loop
-gift-of-requires c κs = omega (arith, c .role-of .ensures, start c .pre .1 .1 (looped c .loop .i) (placed c), start c .pre .0 .few)
+gift-of-requires c κs = tt
 
 add-heads-requires : tie.Need-add-heads-requires Inv-loop μ-loop
 add-heads-requires c κs =
@@ -103,6 +106,7 @@ add-waiting-spec =
     mul-t24
     element-copy-out-t27
     role-of-requires
+    cast-t29
     gift-of-requires
     add-heads-requires
     returns

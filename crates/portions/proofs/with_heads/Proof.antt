@@ -12,7 +12,7 @@ use Rattle.portions.proofs.with_heads.Tie as tie
 
 abbrev Inv-loop : tie.InvT-loop
 Inv-loop keys₀ spans₀ slots₀ links₀ notes₀ done codes valid lists n p limit o places₀ r₀ at₀ keys spans slots links notes places r at =
-    Walked limit keys₀ spans₀ notes₀ n codes valid lists (p .body) (p .own) done (p .start) (p .offer) keys spans slots links notes r at × (length places ≡ 257)
+    Walked limit keys₀ spans₀ notes₀ n codes valid lists (p .body) (p .own) done (p .start) (p .offer) keys spans slots links notes r at × (length places ≡ 97)
 
 abbrev μ-loop : tie.MeasureT-loop
 μ-loop keys₀ spans₀ slots₀ links₀ notes₀ done codes valid lists n p limit o places₀ r₀ at₀ keys spans slots links notes places r at = at

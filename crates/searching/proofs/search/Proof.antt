@@ -1,42 +1,29 @@
--- `searching::search` meets its contract: one span, for the minute, and nothing in any list at first.
+-- `searching::search` meets its contract: all entries give, where there are not too many.
+use Rattle.searching.proofs.Loads.{over, started, searched}
 use borrow.Author.Needs.{needs}
-use Rattle.loading.proofs.Wholes.{minute-spans}
-use Rattle.loading.proofs.Blank.{no-uses}
 use Rattle.searching.proofs.search.Statement.{statement}
 use Rattle.searching.proofs.search.Tie as tie
+use Rattle.searching.proofs.search.Reads as reads
+use Rattle.searching.proofs.search.Lts as lts
+use Rattle.levels.proofs.fire_all.Reads as fire-all-reads
+use Rattle.store.proofs.room_for_keys.Reads as room-for-keys-reads
 
-room-for-codes-requires : tie.Need-room-for-codes-requires
-room-for-codes-requires c κs = search needs
-
-room-for-valid-requires : tie.Need-room-for-valid-requires
-room-for-valid-requires c κs = search needs
-
-room-for-lists-requires : tie.Need-room-for-lists-requires
-room-for-lists-requires c κs = search needs
-
-one-end-requires : tie.Need-one-end-requires
-one-end-requires c κs = search needs
-
-load-uses-requires : tie.Need-load-uses-requires
-load-uses-requires c κs =
-    (c .before .before .before .before .before .before .before .before .pre .0, (minute-spans (c .before .before .before .before .one-end .ensures .0), no-uses (c .before .before .before .before .before .before .before .room-for-codes .ensures) (c .before .before .before .before .before .before .room-for-valid .ensures) (c .before .before .before .before .before .room-for-lists .ensures)))
-
-search-by-requires : tie.Need-search-by-requires
-search-by-requires c κs =
-    let h = c .before .before .before .before .before .before .before .before .before .before .before .before .before .before .before .before .pre in
-    (h .0, (c .before .before .before .before .before .before .before .load-uses .ensures, (c .before .before .before .before .before .before .before .before .before .before .before .before .one-end .ensures .0, (h .1 .0, h .1 .1))))
-
+-- src/lib.rt:63:9
 returns : tie.Need-returns
-returns c = rw (← c .before .before .before .before .before .before .before .before .before .before .before .before .before .one-end .ensures .1) (c .search-by .ensures)
+returns c = λ cs m w. over w (c .if1 .taken)
+
+-- src/lib.rt:65:20
+room-for-keys-requires : tie.Need-room-for-keys-requires
+room-for-keys-requires c κs = search needs
+
+-- src/lib.rt:66:5
+fire-all-requires : tie.Need-fire-all-requires
+fire-all-requires c κs = let w = c .before .before .before .before .before .before .before .before .pre .2 in
+    (started w (c .before .before .before .before .before .before .before .if1 .left) (c .before .before .before .before .before .before .room-for-keys .ensures), (c .before .before .before .before .before .before .before .if1 .left, w .few))
+
+-- src/lib.rt:47:1
+returns-2 : tie.Need-returns-2
+returns-2 c = λ cs m w. searched w (c .before .before .before .before .before .before .before .before .if1 .left) (c .before .before .before .before .before .before .before .room-for-keys .ensures) (c .fire-all .ensures)
 
 pub search-spec : {M : Type 1} → statement M
-search-spec =
-    tie.close
-    (tie.spec
-    room-for-codes-requires
-    room-for-valid-requires
-    room-for-lists-requires
-    one-end-requires
-    load-uses-requires
-    search-by-requires
-    returns)
+search-spec = tie.close (tie.spec returns room-for-keys-requires fire-all-requires returns-2)

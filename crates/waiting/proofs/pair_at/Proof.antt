@@ -30,6 +30,9 @@ pair-spans-requires c κs = search needs
 add-t17 : tie.Need-add-t17
 add-t17 c = omega arith
 
+cast-t18 : tie.Need-cast-t18
+cast-t18 c = omega arith
+
 returns : tie.Need-returns
 returns c =
     let o = c .before .before .before .before .before .before .args .o in
@@ -49,4 +52,5 @@ pair-at-spec =
     element-copy-out-pair-spans
     pair-spans-requires
     add-t17
+    cast-t18
     returns)

@@ -11,7 +11,7 @@ use Rattle.waiting.proofs.search.Statement.{statement}
 use Rattle.waiting.proofs.search.Tie as tie
 
 abbrev Inv-loop : tie.InvT-loop
-Inv-loop waiting₀ count set x₀ p₀ left₀ waiting x p left = (waiting ≡ waiting₀) × (128 ≤ p) × (p < 257) × (x < 4294967296) × (left ≤ 33)
+Inv-loop waiting₀ count set x₀ p₀ left₀ waiting x p left = (waiting ≡ waiting₀) × (48 ≤ p) × (p < 97) × (x < 4294967296) × (left ≤ 33)
 
 abbrev μ-loop : tie.MeasureT-loop
 μ-loop waiting₀ count set x₀ p₀ left₀ waiting x p left = left

@@ -30,6 +30,9 @@ returns c =
     let r = c .before .before .before .place-of in
     stored-joined (r .ensures .1) (c .before .before .before .before .before .pre .0) (r .result) (c .before .before .if1 .taken) (r .ensures .0 .equal (c .before .before .if1 .taken))
 
+cast-waiting : tie.Need-cast-waiting
+cast-waiting c = omega arith
+
 mul-waiting-3 : tie.Need-mul-waiting-3
 mul-waiting-3 c = omega arith
 
@@ -75,8 +78,8 @@ mul-waiting-9 c = omega arith
 element-write-waiting-5 : tie.Need-element-write-waiting-5
 element-write-waiting-5 c = omega (arith, c .before .before .before .before .before .pre .1 .1 .1)
 
-add-t20 : tie.Need-add-t20
-add-t20 c = omega arith
+add-t21 : tie.Need-add-t21
+add-t21 c = omega arith
 
 returns-2 : tie.Need-returns-2
 returns-2 c =
@@ -95,6 +98,7 @@ unite-spec =
     mul-waiting-2
     element-write-waiting
     returns
+    cast-waiting
     mul-waiting-3
     add-waiting-3
     mul-waiting-4
@@ -110,5 +114,5 @@ unite-spec =
     add-waiting-6
     mul-waiting-9
     element-write-waiting-5
-    add-t20
+    add-t21
     returns-2)
