@@ -1,4 +1,6 @@
 // The proof of one entry: the entries on which it rests, and no others, kept as proof steps and written into lent lists.
+#![tactic(auto)]
+
 ghost use Rattle.std.specs.Prelude.{◌≡◌, ◌++◌, map, suc, ◌-◌, ◌≤◌, ◌<◌, length, get_or, set, drop, replicate};
 ghost use Rattle.meaning.specs.Lists.{below};
 ghost use Rattle.derivation.specs.HandedOut.{words};

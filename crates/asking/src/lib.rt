@@ -1,4 +1,6 @@
 // A request of querying and checking: role, set and minute, with four lists of proof steps; refusals 1 to 9, 11, 12, 17, 20 and 21.
+#![tactic(auto)]
+
 ghost use Rattle.std.specs.Prelude.{◌≡◌, ◌&&◌, ◌/◌, ◌%◌, ◌^◌, ◌≤◌, eqb, ltb};
 ghost use Rattle.file.specs.Reading.{between};
 ghost use Rattle.withdrawals.specs.Source.{◌without◌};

@@ -1,4 +1,6 @@
 // The blocks of a credentials file, written one after the other.
+#![tactic(auto)]
+
 ghost use Rattle.std.specs.Prelude.{◌≡◌, ◌++◌, ◌+◌, ◌*◌, ◌≤◌, ◌<◌, length};
 ghost use Rattle.meaning.specs.Lists.{each, below};
 ghost use Rattle.file.specs.Format.{four};

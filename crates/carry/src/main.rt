@@ -1,4 +1,6 @@
 // Brings an old credentials file on standard input forward, or a new one back, and writes the other to standard output; or a line on standard error, and then nothing on standard output.
+#![tactic(auto)]
+
 ghost use Rattle.std.specs.Prelude.{◌≡◌, ◌≤◌, length};
 
 use carrying::Carried;

@@ -1,5 +1,7 @@
 // What a refusal of bringing a file forward or back means, as a line of text in a buffer of 256 bytes: 3 to 7 of an old file, and 19 of a new one. It takes
 // any bytes and numbers; what it says is so where a call gave that refusal for them.
+#![tactic(auto)]
+
 ghost use Rattle.std.specs.Prelude.{◌≡◌};
 ghost use Rattle.text.specs.Lines.{LinedIn};
 ghost use Rattle.old_file.specs.OldFormat.{old_field};

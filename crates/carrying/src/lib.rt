@@ -1,4 +1,6 @@
 // Old files brought forward and back (document 02, Three).
+#![tactic(auto)]
+
 ghost use Rattle.std.specs.Prelude.{◌≡◌, ◌+◌, ◌*◌, ◌≤◌, length, take};
 ghost use Rattle.file.specs.Refusals.{done, refused};
 ghost use Rattle.file.specs.Format.{N, length_for};

@@ -1,4 +1,6 @@
 // Checking on bytes.
+#![tactic(auto)]
+
 ghost use Rattle.std.specs.Prelude.{◌≡◌, ◌*◌, ◌≤◌, min, length, take};
 ghost use Rattle.asking.specs.Asking.{request, step_lists};
 ghost use Rattle.checking.specs.Checking.{says_checked};

@@ -1,4 +1,6 @@
 // Checking a proof that somebody brings: its level, or a refusal.
+#![tactic(auto)]
+
 ghost use Rattle.std.specs.Prelude.{◌≡◌, ◌<◌, ◌≤◌, length};
 ghost use Rattle.policy.specs.Policy.{credentials_of};
 ghost use Rattle.asking.specs.Asking.{request, step_lists, step_in};

@@ -1,4 +1,6 @@
 // The closing loop: an entry whose spans are not all done gives what its new spans give, until all are done.
+#![tactic(auto)]
+
 ghost use Rattle.std.specs.Prelude.{◌≡◌, true, false, ℕ, ◌<◌, ◌≤◌, get_or};
 ghost use Rattle.rules.specs.Uses.{Listed, Formed};
 ghost use Rattle.closure.specs.Closure.{Held, Finished};

@@ -1,1 +1,2 @@
 // Entries closed under statements: definitions. No code.
+#![tactic(auto)]

@@ -1,4 +1,6 @@
 // Entries of lent lists as bytes, lowest byte first.
+#![tactic(auto)]
+
 ghost use Rattle.std.specs.Prelude.{◌≡◌, ◌++◌, ◌*◌, ◌^◌, ◌≤◌, ◌<◌, length, take, drop};
 ghost use Rattle.codec.specs.Bytes.{bytes, entry, bytes_of, first_entries};
 

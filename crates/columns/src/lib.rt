@@ -1,4 +1,6 @@
 // The columns of a table, three lent lists: whether they are of one length, and zeros in them.
+#![tactic(auto)]
+
 ghost use Rattle.std.specs.Prelude.{◌≡◌, ◌&&◌, eqb, leb, length, replicate};
 
 // Three lengths that are the same, 1 to 1,024.

@@ -1,4 +1,6 @@
 // Completing on bytes.
+#![tactic(auto)]
+
 ghost use Rattle.std.specs.Prelude.{◌≡◌, length};
 ghost use Rattle.file.specs.Refusals.{writes};
 ghost use Rattle.meaning.specs.Lists.{if};

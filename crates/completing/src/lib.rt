@@ -1,4 +1,6 @@
 // Completing the table: every membership of a credentials file after its withdrawals, with all spans in which the rules give it, in three lent lists.
+#![tactic(auto)]
+
 ghost use Rattle.std.specs.Prelude.{◌≡◌, length};
 ghost use Rattle.policy.specs.Policy.{credentials_of};
 ghost use Rattle.tabling.specs.Tabling.{Loadable};

@@ -1,4 +1,6 @@
 // What the programs share: rooms, reading standard input, writing lines.
+#![tactic(auto)]
+
 ghost use Rattle.std.specs.Prelude.{◌≡◌, ◌+◌, ◌≤◌, length};
 ghost use Rattle.file_sentences.specs.FileSentences.{longest};
 ghost use Rattle.io.specs.Counts.{IsPrefixLen};

@@ -1,5 +1,7 @@
 // Reads a credentials file on standard input and prints each credential on a line: position, #serial, head, body, from..to; or `refused`, number,
 // place, with what that means on standard error, after the credentials before the one at fault.
+#![tactic(auto)]
+
 use file::Found;
 use walker::Entry;
 

@@ -1,4 +1,6 @@
 // Withdrawals from a decoded policy: refusals 20 and 21, and the periods cut.
+#![tactic(auto)]
+
 ghost use Rattle.std.specs.Prelude.{◌≡◌, ◌<◌};
 ghost use Rattle.file.specs.Format.{N};
 ghost use Rattle.file.specs.Conditions.{Head, GoodBelow};

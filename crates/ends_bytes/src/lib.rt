@@ -1,4 +1,6 @@
 // The ends on bytes.
+#![tactic(auto)]
+
 ghost use Rattle.std.specs.Prelude.{◌≡◌};
 ghost use Rattle.replies.specs.Interface.{word};
 ghost use Rattle.withdrawals.specs.Source.{◌without◌};

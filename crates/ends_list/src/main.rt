@@ -1,5 +1,6 @@
 // Reads a credentials file on standard input and prints how many ends it has, then each on a line; or `refused`, number, place, with what that
 // means on standard error.
+#![tactic(auto)]
 
 fn print_ends(file: &[u8]) {
     let none = withdrawals::none();

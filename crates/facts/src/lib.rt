@@ -1,4 +1,6 @@
 // Facts: the sets that the credentials of a policy state outright, loaded into the store, each in the spans that its credential's period covers.
+#![tactic(auto)]
+
 ghost use Rattle.std.specs.Prelude.{◌<◌, ◌≤◌};
 ghost use Rattle.policy.specs.Policy.{credential_of, statement_in, Decoded};
 ghost use Rattle.heads.specs.Gaining.{Kept, Gains};

@@ -1,4 +1,6 @@
 // Of one credential of a file, refusals 4 to 7.
+#![tactic(auto)]
+
 ghost use Rattle.std.specs.Prelude.{◌≡◌, ◌<◌, ◌||◌, not, eqb, ltb, length};
 ghost use Rattle.file.specs.Format.{byte, E, R, N};
 ghost use Rattle.file.specs.Reading.{in_range, zeros, credential_rows};

@@ -1,4 +1,6 @@
 // The credentials file: its credentials as types, its sizes with refusals 1 to 3, and of one credential its serial and its period.
+#![tactic(auto)]
+
 ghost use Rattle.std.specs.Prelude.{◌≡◌, ◌+◌, ◌*◌, ◌<◌, ◌≤◌, min, length, ◌&&◌};
 ghost use Rattle.meaning.specs.Credentials.{◌·◌};
 ghost use Rattle.file.specs.Format.{two, four, N, statement_at, serial_of};

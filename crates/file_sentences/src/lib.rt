@@ -1,5 +1,7 @@
 // What a refusal of a file means, as a line of text in a buffer of 256 bytes. It takes any bytes and numbers; what it says is so where a call gave
 // that refusal for them, of 10 a call with lists of 1,024 entries.
+#![tactic(auto)]
+
 ghost use Rattle.std.specs.Prelude.{◌≡◌, not, eqb, leb};
 ghost use Rattle.meaning.specs.Lists.{if as Lists·if};
 ghost use Rattle.text.specs.Lines.{LinedIn};

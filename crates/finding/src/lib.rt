@@ -1,4 +1,6 @@
 // Finding the entry of one role and set at a minute, with its least level; or a refusal.
+#![tactic(auto)]
+
 ghost use Rattle.std.specs.Prelude.{◌≡◌, ℕ, ◌≤◌, ◌<◌, max, replicate};
 ghost use Rattle.store.specs.Notes.{level_of, Leveled};
 ghost use Rattle.heads.specs.Gaining.{Kept};

@@ -1,4 +1,6 @@
 // What an entry gives as a premise of the uses of its families.
+#![tactic(auto)]
+
 ghost use Rattle.std.specs.Prelude.{◌≡◌, ◌+◌, ◌≤◌, get_or};
 ghost use Rattle.rules.specs.Uses.{Listed, Formed, family_of};
 ghost use Rattle.heads.specs.Gaining.{Gains};

@@ -1,4 +1,6 @@
 // Giving: an entry whose spans are not all done gives what its new spans give, by every body of which it is a premise.
+#![tactic(auto)]
+
 ghost use Rattle.std.specs.Prelude.{◌≡◌, ◌<◌, ◌≤◌, get_or};
 ghost use Rattle.std.specs.Int.Bits.{bit_xor};
 ghost use Rattle.rules.specs.Uses.{Listed, Formed};

@@ -1,4 +1,6 @@
 // Adding sets to the heads of a body, with a note of how each new entry came about.
+#![tactic(auto)]
+
 ghost use Rattle.std.specs.Prelude.{◌≡◌, List, ℕ, ◌<◌, ◌≤◌};
 ghost use Rattle.rules.specs.Uses.{Listed};
 ghost use Rattle.store.specs.Notes.{noted};

@@ -1,4 +1,6 @@
 // The intervals of a span number on bytes.
+#![tactic(auto)]
+
 ghost use Rattle.std.specs.Prelude.{◌≡◌, length};
 ghost use Rattle.replies.specs.Interface.{word};
 ghost use Rattle.withdrawals.specs.Source.{◌without◌};

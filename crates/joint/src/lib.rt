@@ -1,4 +1,6 @@
 // Completing, querying and checking together: one function that makes the three calls, with the claim over them as its contract.
+#![tactic(auto)]
+
 ghost use Rattle.asking.specs.Asking.{request, step_lists};
 ghost use Rattle.completing.specs.Completing.{lent};
 ghost use Rattle.withdrawals.specs.Source.{◌without◌};

@@ -1,4 +1,6 @@
 // The three calls for C together: one function that makes them, with demand 3 on bytes as its contract.
+#![tactic(auto)]
+
 ghost use Rattle.std.specs.Prelude.{◌≡◌};
 ghost use Rattle.asking.specs.Asking.{request, step_lists};
 ghost use Rattle.completing.specs.Completing.{lent};

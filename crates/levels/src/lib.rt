@@ -1,4 +1,6 @@
 // Entries give one after the other, in list order, so that levels never fall.
+#![tactic(auto)]
+
 ghost use Rattle.std.specs.Prelude.{◌≤◌};
 ghost use Rattle.levels.specs.Levels.{AtStart, FiredAll};
 

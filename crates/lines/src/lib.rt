@@ -1,4 +1,6 @@
 // Lines of text in a buffer of 128 bytes. A function that writes a line returns how many bytes it has, and leaves the bytes after it as they were.
+#![tactic(auto)]
+
 ghost use Rattle.std.specs.Prelude.{[], ◌∷◌, ◌≤◌, length};
 ghost use Rattle.text.specs.Lines.{Put, Lined, line};
 ghost use Rattle.lines.specs.Printed.{refused_with, refused_line, refused_start, interval_line};

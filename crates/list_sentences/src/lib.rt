@@ -1,5 +1,7 @@
 // What a refusal of a withdrawal list means, as a line of text in a buffer of 256 bytes. It takes any bytes and numbers; what it says is so where a call gave
 // that refusal for them.
+#![tactic(auto)]
+
 ghost use Rattle.std.specs.Prelude.{◌≡◌, ◌+◌, ◌*◌, ◌≤◌, ◌<◌, min, eqb};
 ghost use Rattle.meaning.specs.Lists.{any, below};
 ghost use Rattle.text.specs.Lines.{LinedIn};

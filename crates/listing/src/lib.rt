@@ -1,4 +1,6 @@
 // Adding to the lists of uses. Equal statements and equal bodies are looked for and joined, which saves time; no contract promises it.
+#![tactic(auto)]
+
 ghost use Rattle.std.specs.Prelude.{◌≡◌, ◌+◌, ◌<◌, ◌≤◌, length, get_or};
 ghost use Rattle.rules.specs.Uses.{Fitting, bodies_in, heads_in, Listed, UseAdded};
 ghost use Rattle.listing.specs.Places.{ItemList, Sought, linked, BodyPlaced, HeadPlaced};

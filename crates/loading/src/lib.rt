@@ -1,4 +1,6 @@
 // Loading the bodies of a policy's credentials, other than sets, into the lists of uses, each in the spans that its credential's period covers.
+#![tactic(auto)]
+
 ghost use Rattle.std.specs.Prelude.{◌≡◌, ◌<◌};
 ghost use Rattle.policy.specs.Policy.{credential_of, statement_in, Decoded, body_of};
 ghost use Rattle.masks.specs.Masks.{Spans};

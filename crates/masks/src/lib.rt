@@ -1,5 +1,7 @@
 // The spans that a credential's period covers, as the bits of a number.
 // The spans begin at the first `count` ends; one end is one span, in which a credential is valid that is valid at that minute.
+#![tactic(auto)]
+
 ghost use Rattle.std.specs.Prelude.{◌≡◌, ◌-◌, ◌^◌, ◌<◌};
 ghost use Rattle.meaning.specs.Table.{digit};
 ghost use Rattle.policy.specs.Policy.{credential_of};

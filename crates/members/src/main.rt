@@ -1,5 +1,7 @@
 // Reads a credentials file on standard input and prints how many memberships it has, then for each of their intervals a line of
 // issuer, name, set, from, to; or `refused`, number, place, with what that means on standard error.
+#![tactic(auto)]
+
 use completing::Completed;
 
 // Each function that prints says whether it could.

@@ -1,5 +1,7 @@
 // Credentials as lines of text, in document 01's notation (UTF-8). A function that writes a line returns how many bytes it has, and leaves
 // the bytes after it as they were.
+#![tactic(auto)]
+
 ghost use Rattle.std.specs.Prelude.{◌++◌, ◌≡◌, ◌+◌, ◌-◌, ◌≤◌, length};
 ghost use Rattle.text.specs.Lines.{Put, Lined};
 ghost use Rattle.notation.specs.Notation.{role_text, linked_text, body_text, statement_text, serial_text, period_text, credential_line};

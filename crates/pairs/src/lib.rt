@@ -1,4 +1,6 @@
 // What an entry gives with each entry of a role, for the heads of a body: one head gets what it lacks, pair by pair; several get it in portions.
+#![tactic(auto)]
+
 ghost use Rattle.std.specs.Prelude.{◌≡◌, true, List, ℕ, ◌<◌, ◌≤◌};
 ghost use Rattle.store.specs.Entries.{Searchable, Leading};
 ghost use Rattle.rules.specs.Uses.{Listed, bodies_in};

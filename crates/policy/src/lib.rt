@@ -1,4 +1,6 @@
 // A file that passes 1 to 7 and 17, decoded once: for each credential two numbers, its statement and its period.
+#![tactic(auto)]
+
 ghost use Rattle.std.specs.Prelude.{◌≡◌, ◌+◌, ◌*◌, ◌<◌, ◌≤◌, length, set};
 ghost use Rattle.meaning.specs.Credentials.{◌·◌, covers};
 ghost use Rattle.file.specs.Format.{N, byte, statement_at, field};

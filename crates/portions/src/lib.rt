@@ -1,4 +1,6 @@
 // What an entry gives with each entry of a role, added to the heads of a body in portions: sets wait before the heads get them, so that each gets an equal set once.
+#![tactic(auto)]
+
 ghost use Rattle.std.specs.Prelude.{◌≡◌, ℕ, ◌<◌, ◌≤◌, get_or};
 ghost use Rattle.store.specs.Entries.{role_in};
 ghost use Rattle.heads.specs.Gaining.{Gains};

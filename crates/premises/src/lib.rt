@@ -1,4 +1,6 @@
 // What a body gets from an entry as its premise: by its kind, one set, or what an offer gives with each entry of a role.
+#![tactic(auto)]
+
 ghost use Rattle.std.specs.Prelude.{◌≡◌, true, false, ◌<◌, get_or};
 ghost use Rattle.store.specs.Entries.{key_of, role_in, Leading};
 ghost use Rattle.premises.specs.Moves.{Codable, WithOne, Walking, Plans};

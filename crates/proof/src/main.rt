@@ -1,6 +1,8 @@
 // Takes ISSUER NAME SET MINUTE and a credentials file on standard input, and prints a proof that the role has the set as a member at the
 // minute: step count and level, then each step on a line; or `refused`, number, place, with what that means on standard error. The set is
 // written as {1,3} or as its number. A fifth argument names a file with a withdrawal list; without it nothing is withdrawn.
+#![tactic(auto)]
+
 ghost use Rattle.std.specs.Prelude.{◌≡◌, cond, ◌&&◌, ◌+◌, ◌*◌, ltb, length};
 ghost use Rattle.io.specs.Counts.{IsPrefixLen};
 

@@ -1,4 +1,6 @@
 // Proof steps as lines of text. A function that writes a line returns how many bytes it has, and leaves the bytes after it as they were.
+#![tactic(auto)]
+
 ghost use Rattle.std.specs.Prelude.{◌≡◌, [], ◌∷◌, ◌+◌, ◌≤◌, length, take};
 ghost use Rattle.text.specs.Lines.{Put, Lined};
 ghost use Rattle.proof_lines.specs.StepLines.{membership_text, cited_by, from_text, step_line};

@@ -1,4 +1,6 @@
 // Querying on bytes: the steps are written straight into the lent bytes.
+#![tactic(auto)]
+
 ghost use Rattle.std.specs.Prelude.{◌≡◌, ◌++◌, map, ◌-◌, ◌*◌, ◌≤◌, ◌<◌, length, get_or, take, replicate};
 ghost use Rattle.meaning.specs.Lists.{below};
 ghost use Rattle.store.specs.Entries.{set_in};

@@ -1,4 +1,6 @@
 // Querying: a proof of least level for one role, set and minute, or a refusal.
+#![tactic(auto)]
+
 ghost use Rattle.std.specs.Prelude.{◌≡◌, replicate};
 ghost use Rattle.file.specs.Refusals.{done, refused, writes};
 ghost use Rattle.asking.specs.Asking.{request, StepLists, step_lists, Sized};

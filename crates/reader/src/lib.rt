@@ -1,4 +1,6 @@
 // One credential of a file as a value.
+#![tactic(auto)]
+
 ghost use Rattle.std.specs.Prelude.{◌≡◌, ◌<◌, ◌≤◌};
 ghost use Rattle.std.proofs.Math.Option.{some};
 ghost use Rattle.file.specs.Format.{N, role_of, joined_of, body_of, body_in};

@@ -1,4 +1,6 @@
 // What the calls on bytes share: refusals as one number, the test of step lists, lists of their own.
+#![tactic(auto)]
+
 ghost use Rattle.std.specs.Prelude.{◌≡◌, ◌||◌, ◌+◌, ◌*◌, eqb, length};
 ghost use Rattle.meaning.specs.Lists.{if};
 ghost use Rattle.withdrawals.specs.Source.{◌without◌};

@@ -1,4 +1,6 @@
 // The calls for C: lists cross as bytes, lowest first, and the reply is one 64-bit number.
+#![tactic(auto)]
+
 ghost use Rattle.std.specs.Prelude.{◌≡◌};
 ghost use Rattle.asking.specs.Asking.{request, step_lists};
 ghost use Rattle.completing.specs.Completing.{lent};

@@ -1,4 +1,6 @@
 // The uses of a policy's statements by the role of a premise. How they are laid out is in `Listed`.
+#![tactic(auto)]
+
 ghost use Rattle.std.specs.Prelude.{◌≡◌, ◌+◌, ◌-◌, ◌<◌, ◌≤◌, get_or, replicate};
 ghost use Rattle.rules.specs.Uses.{head_of, family_in, kind_in, other_in, source_in};
 

@@ -1,4 +1,6 @@
 // The search at one minute: all memberships, each with how it was derived, in the order of their least levels.
+#![tactic(auto)]
+
 ghost use Rattle.std.specs.Prelude.{◌≡◌, List, ℕ, ◌≤◌, length, get_or};
 ghost use Rattle.meaning.specs.Credentials.{Credential};
 ghost use Rattle.policy.specs.Policy.{credentials_of, Decoded};

@@ -1,4 +1,6 @@
 // Sentences: lines in a buffer of 256 bytes, made of words with places for numbers. Also the numbers of one, two and four bytes that a file holds.
+#![tactic(auto)]
+
 ghost use Rattle.std.specs.Prelude.{◌≡◌, true, ◌++◌, ◌+◌, ◌≤◌, ◌<◌, drop};
 ghost use Rattle.text.specs.Ascii.{ascii};
 ghost use Rattle.text.specs.Lines.{Put, LinedIn};

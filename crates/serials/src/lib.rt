@@ -1,4 +1,6 @@
 // Of the serials of a file's credentials, refusal 17, and the position of one.
+#![tactic(auto)]
+
 ghost use Rattle.std.specs.Prelude.{◌≡◌, ◌+◌, ◌≤◌, eqb, length};
 ghost use Rattle.meaning.specs.Lists.{any, below};
 ghost use Rattle.file.specs.Format.{statement_at, serial_of};

@@ -1,4 +1,6 @@
 // Sets of entities as text, in braces: {1,3}.
+#![tactic(auto)]
+
 ghost use Rattle.std.specs.Prelude.{◌≡◌, [], ◌+◌, ◌≤◌, ◌<◌, length};
 ghost use Rattle.text.specs.Lines.{Put};
 ghost use Rattle.text.specs.Numbers.{number_in};

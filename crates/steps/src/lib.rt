@@ -1,4 +1,6 @@
 // One step of a proof, by the policy and the steps before it.
+#![tactic(auto)]
+
 ghost use Rattle.std.specs.Prelude.{◌≡◌, ◌&&◌, ◌<◌, ◌≤◌, max, eqb, length};
 ghost use Rattle.meaning.specs.Credentials.{◌·◌};
 ghost use Rattle.meaning.specs.Members.{entity, single};

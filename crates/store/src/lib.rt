@@ -1,4 +1,6 @@
 // The store of completing and querying: entries in the order in which they were found, looked up by key, in lists by role, each with a note of how it came about.
+#![tactic(auto)]
+
 ghost use Rattle.std.specs.Prelude.{◌≡◌, true, ℕ, ◌+◌, ◌<◌, ◌≤◌, length, set, replicate};
 ghost use Rattle.store.specs.Entries.{key_of, role_in, set_in, mixed, latest_in, pushed, Searchable, Stored, Leading, At, LookedUp, HasAll, Added};
 ghost use Rattle.store.specs.Notes.{noted};

@@ -1,4 +1,6 @@
 // The table of a decoded policy: loading, closing and writing, one after the other.
+#![tactic(auto)]
+
 ghost use Rattle.std.specs.Prelude.{◌≡◌, length};
 ghost use Rattle.policy.specs.Policy.{credentials_of};
 ghost use Rattle.loading.specs.Loading.{UsesLoaded};

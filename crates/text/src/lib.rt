@@ -1,4 +1,6 @@
 // Pieces of text in a buffer, and numbers in decimal.
+#![tactic(auto)]
+
 ghost use Rattle.std.specs.Prelude.{◌≡◌, [], ◌∷◌, ◌+◌, ◌%◌, ◌≤◌, ◌<◌, length};
 ghost use Rattle.text.specs.Lines.{Put, decimal, field};
 ghost use Rattle.text.specs.Numbers.{digit, number_in};

@@ -1,4 +1,6 @@
 // Sets that an entry gives with the entries of a role wait in 24 places, each once with all its spans and its first partner.
+#![tactic(auto)]
+
 ghost use Rattle.std.specs.Prelude.{◌≡◌, ◌<◌, ◌≤◌, length};
 ghost use Rattle.waiting.specs.Pairs.{pair_set, pair_spans, pair_at};
 ghost use Rattle.waiting.specs.Waiting.{RoleLists, Waiting, Placed, United, Gathers, Settled};

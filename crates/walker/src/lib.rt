@@ -1,4 +1,6 @@
 // Walking a file's credentials: thin functions over a struct that holds the caller's bytes and a place.
+#![tactic(auto)]
+
 ghost use Rattle.std.specs.Prelude.{◌≡◌};
 ghost use Rattle.file.specs.Reading.{read};
 ghost use Rattle.file.specs.Values.{found_in};

@@ -1,4 +1,6 @@
 // A walk through a whole file, from the first credential to the end.
+#![tactic(auto)]
+
 ghost use Rattle.std.specs.Prelude.{◌≡◌};
 ghost use Rattle.walks.specs.Walks.{stands, counted_as, count_in};
 

@@ -1,4 +1,6 @@
 // Numbers in types that are wide enough for what is made of them, each with the bound that its own type gives.
+#![tactic(auto)]
+
 ghost use Rattle.std.specs.Prelude.{◌≡◌, ◌<◌};
 
 // A byte as a number of 32 bits.

@@ -1,4 +1,6 @@
 // The withdrawal list: refusal 20, and of one withdrawal its serial and its minute.
+#![tactic(auto)]
+
 ghost use Rattle.std.specs.Prelude.{◌≡◌, ◌+◌, ◌*◌, ◌≤◌, eqb, length};
 ghost use Rattle.meaning.specs.Lists.{any, below};
 ghost use Rattle.withdrawals.specs.List.{count as List·count, serial_at, minute_at, none as List·none, size_in};
