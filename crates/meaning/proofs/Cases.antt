@@ -164,12 +164,12 @@ module _ (cs : List Credential) (ss : List Step) where
         and_in (ltb i (length ss)) _ (lt→ltb _ _ l) (or_left (eqb i j || by_one n i j) (by_two n i j) (or_left (eqb i j) (by_one n i j) (eq-in i j e)))
     rests-in (by_first {i = i} {j = j} l u r) (suc n) h =
         let k = first-earlier i l u in
-        let t = rests-in r n (omega arith) in
+        let t = rests-in {i = (step_at ss i).first} r n (omega arith) in
         and_in (ltb i (length ss)) _ (lt→ltb _ _ l)
         (or_left (eqb i j || by_one n i j) (by_two n i j) (or_right (eqb i j) (by_one n i j) (and_in (cites_first (body_at cs ss i)) _ u t)))
     rests-in (by_second {i = i} {j = j} l u r) (suc n) h =
         let k = second-earlier i l u in
-        let t = rests-in r n (omega arith) in
+        let t = rests-in {i = (step_at ss i).second} r n (omega arith) in
         and_in (ltb i (length ss)) _ (lt→ltb _ _ l) (or_right (eqb i j || by_one n i j) (by_two n i j) (and_in (cites_second (body_at cs ss i)) _ u t))
 
 -- ---- from the test to the claim

@@ -13,7 +13,7 @@ use lib.ListN.{length, get_or}
 use Rattle.meaning.specs.Lists.{if, any}
 use Rattle.meaning.specs.Credentials.{Period, covers}
 use Rattle.meaning.specs.Table.{bit, span_count, in_spans, extended, intervals_to, intervals, Apart}
-use Rattle.meaning.specs.Cases.{◌upTo◌}
+use Rattle.meaning.specs.Cases.{◌up_to◌}
 use Rattle.meaning.proofs.Tests.{eq-in, or_left, or_right, or_cases, same_test}
 use Rattle.meaning.proofs.Spans.{Rising, rising, covers-in, covers_out, span-in, span-out, in-spans}
 
@@ -74,6 +74,9 @@ ends_more v (w ∷ vs) f h = h
 module _ (e f : ℕ) (l : e < f) where
   extends-after : (a : ℕ) {vs ws : List Period} → Extends e f vs ws → a < e → After a vs → After a ws
   extends-after a alone h k u (head p) = omega (arith, from-of p)
+  extends-after a alone h k u (tail i) = elim i [ ]
+  extends-after a (joined v q) h k u (tail i) = elim i [ ]
+  extends-after a (apart v n) h k u (tail (tail x16)) = elim x16 [ ]
   extends-after a (joined v q) h k u (head p) = omega (arith, from-of p, k v (head refl))
   extends-after a (apart v n) h k u (head p) = omega (arith, from-of p, k v (head refl))
   extends-after a (apart v n) h k u (tail (head p)) = omega (arith, from-of p)
@@ -82,6 +85,9 @@ module _ (e f : ℕ) (l : e < f) where
 
   extends-until : {vs ws : List Period} → Extends e f vs ws → Until e vs → Until f ws
   extends-until alone k u (head p) = omega (arith, until-of p)
+  extends-until alone k u (tail i) = elim i [ ]
+  extends-until (joined v q) k u (tail i) = elim i [ ]
+  extends-until (apart v n) k u (tail (tail x15)) = elim x15 [ ]
   extends-until (joined v q) k u (head p) = omega (arith, until-of p)
   extends-until (apart v n) k u (head p) = omega (arith, until-of p, k v (head refl))
   extends-until (apart v n) k u (tail (head p)) = omega (arith, until-of p)
@@ -95,6 +101,7 @@ module _ (e f : ℕ) (l : e < f) where
     where
       before : (w : Period) → Mem w (e up_to f ∷ []) → v.until < w.from
       before w (head p) = lt_of_not-le (λ i. let h = k v (head refl) in n (omega (arith, from-of p)))
+      before w (tail x7) = elim x7 [ ]
   extends-apart (later v w r) a k =
       let b = a.1 w (head refl) in
       let c = a.2.0 in

@@ -2,11 +2,11 @@
 use mathlib.Core.Path.{◌≡◌, refl, sym, ap, ◌∙◌, subst, subst⁻¹}
 use mathlib.Core.Logic.{◌↔◌}
 use mathlib.Core.List.Memᴰ.{head}
-use mathlib.Core.List.{List, Memᴰ as Mem}
+use mathlib.Core.List.{List, [], ◌∷◌, Memᴰ as Mem}
 use Prim.Native.Nat.{ℕ, zero, suc, ◌^◌, ◌<◌, zero-le, suc-le-suc}
 use native.Mathlib.Nat.{pow-suc, mul-mod_left, mul-div_cancel, le_of_suc-le-suc, not-suc-le-zero}
 use native.Mathlib.Omega.{arith}
-use lib.Bits.{bit_and}
+use lib.Bits.{bit_or, bit_and}
 use lib.Dec.{eqb, eqb→eq, eqb_refl}
 use Rattle.meaning.specs.Lists.{each}
 use Rattle.meaning.specs.Credentials.{◌·◌, Body, set, role, link, ◌∩◌, ◌⊙◌, ◌⊗◌, Statement}
@@ -49,7 +49,7 @@ given-in M (role Bs) X h = sets-in Bs h
 given-in M (link Bs t) X (C, h, k) =
     each_in _ (sets-in Bs h) (rw entity-power (only-in (eqb (2 ^ C) (2 ^ C)) (eqb_refl (2 ^ C)) (sets-in (C · t) k)))
 given-in M (Bs ∩ Ct) X (h, k) = each_in _ (sets-in Bs h) (each_in _ (sets-in Ct k) (only-in (eqb X X) (eqb_refl X) (head refl)))
-given-in M (Bs ⊙ Ct) X (Y, Z, h, k, e) = each_in _ (sets-in Bs h) (each_in _ (sets-in Ct k) (head e))
+given-in M (Bs ⊙ Ct) X (Y, Z, h, k, e) = each_in _ (sets-in Bs h) (each_in (λ x. bit_or Y x ∷ []) (sets-in Ct k) (head e))
 given-in M (Bs ⊗ Ct) X (Y, Z, h, k, d, e) =
     each_in _ (sets-in Bs h) (each_in _ (sets-in Ct k) (only-in (eqb (bit_and Y Z) 0) (rw d tt) (head e)))
 
@@ -68,7 +68,7 @@ given_out M (Bs ∩ Ct) X m =
     (subst⁻¹ (In M Bs) e (sets-out M Bs r.1), subst⁻¹ (In M Ct) (e ∙ eqb→eq _ _ o.0) (sets-out M Ct q.1))
 given_out M (Bs ⊙ Ct) X m =
     let r = each-out _ (sets_of Bs M) m in
-    let q = each-out _ (sets_of Ct M) r.2 in
+    let q = each-out (λ Z. bit_or r.0 Z ∷ []) (sets_of Ct M) r.2 in
     (r.0, q.0, sets-out M Bs r.1, sets-out M Ct q.1, sole q.2)
 given_out M (Bs ⊗ Ct) X m =
     let r = each-out _ (sets_of Bs M) m in

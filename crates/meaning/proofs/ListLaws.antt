@@ -33,6 +33,7 @@ module _ {A B : Type 0} where
   map-in f (tail h) = tail (map-in f h)
 
   pub map-out : (f : A → B) {y : B} (l : List A) → Mem y (map f l) → (x : A) × Mem x l × (y ≡ f x)
+  map-out f {y = y} [] x' = elim x' [ ]
   map-out f (z ∷ l) (head e) = (z, head refl, e)
   map-out f (z ∷ l) (tail h) = let r = map-out f l h in (r.0, tail r.1, r.2)
 
@@ -51,6 +52,7 @@ module _ {A : Type 0} where
 
   pub sole : {x y : A} → Mem x (y ∷ []) → x ≡ y
   sole (head e) = e
+  sole {y = y} (tail x5) = elim x5 [ ]
 
   pub cast : {x y : A} {l : List A} → x ≡ y → Mem y l → Mem x l
   cast e (head p) = head (e ∙ p)

@@ -53,6 +53,7 @@ is_false false f = refl
 
 module _ {A : Type 0} (p : A → Bool) where
   pub all-out : {x : A} (l : List A) → T (all p l) → Mem x l → T (p x)
+  all-out [] t x3 = elim x3 [ ]
   all-out (y ∷ l) t (head e) = subst⁻¹ (λ z. T (p z)) e (and_left (p y) (all p l) t)
   all-out (y ∷ l) t (tail h) = all-out l (and_right (p y) (all p l) t) h
 

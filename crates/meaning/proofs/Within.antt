@@ -46,7 +46,7 @@ module _ (cs ds : List Credential) (w : Within cs ds) where
       and_in (ltb s.credential (length ds) && keeps m (credential_at ds s.credential) before s) _
       (and_in (ltb s.credential (length ds)) _ (subst (λ (n : ℕ). T (ltb s.credential n)) w.count (and_left c k l))
       (keeps-still m s.credential before s (and_right c k l)))
-      (all_keep_lem m _ ss (subst (λ (x : Shown). T (all_keep cs m (before ++ x ∷ []) ss)) (shows s.credential before s) (and_right (c && k) rest t)))
+      (all_keep_lem m (before ++ showing (credential_at ds s.credential) before s ∷ []) ss (subst (λ (x : Shown). T (all_keep cs m (before ++ x ∷ []) ss)) (shows s.credential before s) (and_right (c && k) rest t)))
 
   -- the same steps prove the same membership, with the same level
   pub proof-kept : {m Ar X k : ℕ} {ss : List Step} → Proof cs m Ar X k ss → Proof ds m Ar X k ss

@@ -8,12 +8,12 @@ use Rattle.meaning.specs.Proofs.{Step, Shown, cites_first, cites_second, shown_b
 use Rattle.meaning.specs.Table.{bit, Row, ends, table, intervals}
 
 infix 78 ◌through◌
-infix 78 ◌upTo◌
+infix 78 ◌up_to◌
 -- a credential's period by its first and its last minute, which both count; and a half-open one, or an interval
 abbrev pub ◌through◌ : ℕ → ℕ → Period
 a through b = record { from = a; until = suc b }
 
-abbrev pub ◌upTo◌ : ℕ → ℕ → Period
+abbrev pub ◌up_to◌ : ℕ → ℕ → Period
 a up_to b = record { from = a; until = b }
 
 pub data Claim : Type 0 where
