@@ -12,7 +12,7 @@ ghost use Rattle.policy.specs.Steps.{body_at, word_in, period_number, stored, On
 use file::{Entity, Head, Period, Refusal, RoleName};
 
 // Number and place of the refusal, or 0, 0 and the sizes of a file that passes 1 to 7 and 17.
-#[derive(Drop)]
+#[derive(Clone, Copy)]
 pub struct Sizes {
     pub number: u32,
     pub place: u32,
@@ -23,7 +23,7 @@ pub struct Sizes {
 
 // A statement's kind and head, and what the kind makes its body of: kind 0 the set, every other the first role, kinds from 2 on also the second role or the name.
 // What the kind does not use is not read.
-#[derive(Drop)]
+#[derive(Clone, Copy)]
 pub struct Statement {
     pub kind: u32,
     pub head: u32,

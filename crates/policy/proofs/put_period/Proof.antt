@@ -8,16 +8,16 @@ use borrow.Author.Rules.{rules}
 use Rattle.policy.proofs.put_period.Statement.{statement}
 use Rattle.policy.proofs.put_period.Tie as tie
 
-period-word-requires : tie.Need-period-word-requires
+period-word-requires : tie.Need-period_word-period-requires
 period-word-requires c κs = search rules
 
-put-number-requires : tie.Need-put-number-requires
+put-number-requires : tie.Need-put_number-requires
 put-number-requires c κs = search rules
 
 returns : tie.Need-returns
 returns c = let s = c.before.before.before.args in
-    subst⁻¹ (λ (q : List ℕ). PeriodPut s.policy.now q s.i s.v) c.put-number.ensures
-    (period-put s.policy.now s.i _ s.v c.before.put-number-arg.given.0.1 c.before.before.before.requires c.before.before.period-word.ensures.0 c.before.before.period-word.ensures.1)
+    subst⁻¹ (λ (q : List ℕ). PeriodPut s.policy.now q s.i s.v) c.put_number.ensures
+    (period-put s.policy.now s.i _ s.v c.before.put_number-arg-1.given.0.1 c.before.before.before.requires c.before.before.period_word-period.ensures.0 c.before.before.period_word-period.ensures.1)
 
-pub put-period-spec : {M : Type 1} → statement M
-put-period-spec = tie.close (tie.spec period-word-requires put-number-requires returns)
+pub put_period_spec : {M : Type 1} → statement M
+put_period_spec = tie.close (tie.spec period-word-requires put-number-requires returns)
