@@ -3,10 +3,10 @@
 
 ghost use Rattle.std.specs.Prelude.{◌≡◌, ◌+◌, ◌*◌, ◌≤◌, eqb, length};
 ghost use Rattle.meaning.specs.Lists.{any, below};
-ghost use Rattle.withdrawals.specs.List.{count as List·count, serial_at, minute_at, none as List·none, size_in};
+ghost use Rattle.withdrawals.specs.List.{count as list_count, serial_at, minute_at, none as list_none, size_in};
 
 // 0 and the count of withdrawals; or 20.
-#[derive(Drop)]
+#[derive(Clone, Copy)]
 pub struct Size {
     pub number: u32,
     pub count: usize,
@@ -31,7 +31,7 @@ pub fn read_size(list: &[u8]) -> Size
 
 // The list of no withdrawals.
 pub fn none() -> [u8; 2]
-    ensures { (result ≡ List·none) × (2 ≡ length result) }
+    ensures { (result ≡ list_none) × (2 ≡ length result) }
 {
     [0; 2]
 }
@@ -46,7 +46,7 @@ pub fn serial_at(list: &[u8], k: usize) -> u32
 
 // The minute of withdrawal k of n.
 pub fn minute_at(list: &[u8], n: usize, k: usize) -> u32
-    requires { (n ≡ List·count list.now) × (6 + 4 * n + 4 * k ≤ length list.now) }
+    requires { (n ≡ list_count list.now) × (6 + 4 * n + 4 * k ≤ length list.now) }
     ensures { result ≡ minute_at list.now k }
 {
     file::four_at(list, 2 + 4 * n + 4 * k)
