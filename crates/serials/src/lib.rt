@@ -4,14 +4,14 @@
 ghost use Rattle.std.specs.Prelude.{◌≡◌, ◌+◌, ◌≤◌, eqb, length};
 ghost use Rattle.meaning.specs.Lists.{any, below};
 ghost use Rattle.file.specs.Format.{statement_at, serial_of};
-ghost use Rattle.file.specs.Reading.{taken as Reading·taken};
+ghost use Rattle.file.specs.Reading.{taken as reading_taken};
 ghost use Rattle.serials.specs.Serials.{Greatest, FirstWith};
 
 // Whether the serial of credential i is zero or that of an earlier one. `greatest` is the greatest of the earlier serials: a serial above it is new without a search.
 pub fn taken(file: &[u8], i: usize, greatest: u32) -> bool
     requires fact_1 { statement_at i + 12 ≤ length file.now }
     requires fact_2 { Greatest file.now i greatest }
-    ensures { result ≡ Reading·taken file.now i }
+    ensures { result ≡ reading_taken file.now i }
 {
     let x = file::serial_at(file, i);
     if greatest < x {

@@ -8,43 +8,43 @@ use Rattle.serials.proofs.Searching.{found_here, found_nowhere}
 use Rattle.serials.proofs.earlier.Statement.{statement}
 use Rattle.serials.proofs.earlier.Tie as tie
 
-abbrev invariant-loop : tie.invariant-loop
+abbrev invariant-loop : tie.invariant-loop-j
 invariant-loop file n x j₀ j = (j ≤ n) × ((k : ℕ) → k < j → serial_of file k ≡ x → ⊥)
 
-abbrev decreases-loop : tie.decreases-loop
+abbrev decreases-loop : tie.decreases-loop-j
 decreases-loop file n x j₀ j = n - j
 
-loop-holds : tie.Need-loop-init invariant-loop decreases-loop
+loop-holds : tie.Need-loop-j-init invariant-loop decreases-loop
 loop-holds c = (omega arith, λ k l. absurd (omega arith))
 
-serial-at-requires : tie.Need-serial-at-requires invariant-loop decreases-loop
+serial-at-requires : tie.Need-serial_at-requires invariant-loop decreases-loop
 serial-at-requires c κs = omega arith
 
-returns : tie.Need-returns invariant-loop decreases-loop
+returns : tie.Need-returns-then-serial_at-x invariant-loop decreases-loop
 returns c =
     let s = c.before.before.before.before.before in
-    let l = c.before.before.before.loop in
-    found_here s.args.file.now s.args.n s.args.x l.j (omega arith) (sym c.before.serial-at.ensures ∙ c.if1.true)
+    let l = c.before.before.before.loop-j in
+    found_here s.args.file.now s.args.n s.args.x l.j (omega arith) (sym c.before.serial_at.ensures ∙ c.if-serial_at-x.true)
 
-add-j : tie.Need-overflow-add-j invariant-loop decreases-loop
+add-j : tie.Need-overflow_add-j invariant-loop decreases-loop
 add-j c = omega arith
 
-loop-less : tie.Need-loop-smaller invariant-loop decreases-loop
+loop-less : tie.Need-loop-j-smaller invariant-loop decreases-loop
 loop-less c = omega arith
 
-loop-again : tie.Need-loop-preserved invariant-loop decreases-loop
+loop-again : tie.Need-loop-j-preserved invariant-loop decreases-loop
 loop-again c =
-    let l = c.before.before.before.loop in
-    (omega arith, below_more _ _ l.invariant.1 (λ e. c.if1.false (c.before.serial-at.ensures ∙ e)))
+    let l = c.before.before.before.loop-j in
+    (omega arith, below_more _ _ l.invariant.1 (λ e. c.if-serial_at-x.false (c.before.serial_at.ensures ∙ e)))
 
-returns-2 : tie.Need-returns-2 invariant-loop decreases-loop
+returns-2 : tie.Need-returns invariant-loop decreases-loop
 returns-2 c =
     let s = c.before.before.before in
-    let l = c.before.loop in
+    let l = c.before.loop-j in
     found_nowhere s.args.file.now s.args.n s.args.x (λ k m. l.invariant.1 k (omega arith))
 
-pub earlier-spec : {M : Type 1} → statement M
-earlier-spec =
+pub earlier_spec : {M : Type 1} → statement M
+earlier_spec =
     tie.close
     (tie.spec
     invariant-loop
