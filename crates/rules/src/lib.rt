@@ -5,7 +5,7 @@ ghost use Rattle.std.specs.Prelude.{◌≡◌, ◌+◌, ◌-◌, ◌<◌, ◌≤
 ghost use Rattle.rules.specs.Uses.{head_of, family_in, kind_in, other_in, source_in};
 
 // A premise's family, the kind, what the other premise is, and the head.
-#[derive(Drop)]
+#[derive(Clone, Copy)]
 pub struct Use {
     pub family: u32,
     pub kind: u32,
