@@ -33,89 +33,89 @@ added {codes} {valid} {lists} {lists₁} {body} {code} {v} {source} {n} e f =
       );
     }
 
-add_wide : tie.Need-overflow-add-wide
+add_wide : tie.Need-overflow_add-body
 add_wide c = search rules
 
-mul_wide : tie.Need-overflow-mul-wide
+mul_wide : tie.Need-offset_bounds-lists-body
 mul_wide c = search rules
 
-element-copy-out-wide : tie.Need-element-copy-out-wide
+element-copy-out-wide : tie.Need-bounds-lists-body
 element-copy-out-wide c = search rules
 
-wide-requires : tie.Need-wide-requires
+wide-requires : tie.Need-wide-at-requires
 wide-requires c κs = search rules
 
-search-requires : tie.Need-search-requires
-search-requires c κs = rw c.before.before.wide.ensures.0 c.before.before.before.before.requires.0
+search-requires : tie.Need-search-c-requires
+search-requires c κs = rw c.wide-at.ensures.0 c.before.before.before.requires.0
 
-sub-valid : tie.Need-overflow-sub-valid
+sub-valid : tie.Need-overflow_sub-valid
 sub-valid c = search rules
 
-mul-valid : tie.Need-overflow-mul-valid
+mul-valid : tie.Need-offset_bounds-valid-c
 mul-valid c = search rules
 
-element-copy-out-valid : tie.Need-element-copy-out-valid
+element-copy-out-valid : tie.Need-bounds-valid-c
 element-copy-out-valid c = search rules
 
-sub-valid-2 : tie.Need-overflow-sub-valid-2
+sub-valid-2 : tie.Need-overflow_sub-valid-then-c-ne0
 sub-valid-2 c = search rules
 
-mul-valid-2 : tie.Need-overflow-mul-valid-2
+mul-valid-2 : tie.Need-offset_bounds-valid-c-then-c-ne0
 mul-valid-2 c = search rules
 
-element-write-valid : tie.Need-element-write-valid
+element-write-valid : tie.Need-bounds-valid-c-then-c-ne0
 element-write-valid c = search rules
 
-returns : tie.Need-returns
-returns c = let e = c.before.before.before.before.before.wide.ensures.0 in found c.before.before.search.result c.before.before.search.ensures c.before.if1.true (omega (arith, c.before.before.before.before.before.before.before.requires.1.1.2))
+returns : tie.Need-returns-then-c-ne0
+returns c = let e = c.before.before.before.before.wide-at.ensures.0 in found c.before.before.before.search-c.result c.before.before.before.search-c.ensures c.before.before.if-c-ne0.true (omega (arith, c.before.before.before.before.before.before.before.requires.1.1.2))
 
-element-copy-out-wide-2 : tie.Need-element-copy-out-wide-2
+element-copy-out-wide-2 : tie.Need-bounds-lists-3105
 element-copy-out-wide-2 c = search rules
 
-wide-requires-2 : tie.Need-wide-requires-2
+wide-requires-2 : tie.Need-wide-h-requires
 wide-requires-2 c κs = search rules
 
-add-codes : tie.Need-overflow-add-codes
+add-codes : tie.Need-overflow_add-codes
 add-codes c = search rules
 
-mul-codes : tie.Need-overflow-mul-codes
+mul-codes : tie.Need-offset_bounds-codes-h
 mul-codes c = search rules
 
-element-write-codes : tie.Need-element-write-codes
+element-write-codes : tie.Need-bounds-codes-h
 element-write-codes c = search rules
 
-mul-valid-3 : tie.Need-overflow-mul-valid-3
+mul-valid-3 : tie.Need-offset_bounds-valid-h
 mul-valid-3 c = search rules
 
-element-write-valid-2 : tie.Need-element-write-valid-2
+element-write-valid-2 : tie.Need-bounds-valid-h
 element-write-valid-2 c = search rules
 
 link-requires : tie.Need-link-requires
 link-requires c κs = search rules
 
-add-lists : tie.Need-overflow-add-lists
+add-lists : tie.Need-overflow_add-lists
 add-lists c = search rules
 
-mul-lists : tie.Need-overflow-mul-lists
+mul-lists : tie.Need-offset_bounds-lists-h
 mul-lists c = search rules
 
-element-write-lists : tie.Need-element-write-lists
+element-write-lists : tie.Need-bounds-lists-h
 element-write-lists c = search rules
 
-add-lists-2 : tie.Need-overflow-add-lists-2
+add-lists-2 : tie.Need-overflow_add-lists-2
 add-lists-2 c = search rules
 
-cast-lists : tie.Need-overflow-cast-lists
+cast-lists : tie.Need-overflow_cast-lists
 cast-lists c = search rules
 
-element-write-lists-2 : tie.Need-element-write-lists-2
+element-write-lists-2 : tie.Need-bounds-lists-3105-2
 element-write-lists-2 c = search rules
 
-returns-2 : tie.Need-returns-2
-returns-2 c = added c.before.before.wide2.ensures.0 c.link.ensures
+returns-2 : tie.Need-returns
+returns-2 c = added c.before.before.before.before.before.wide-h.ensures.0 c.before.link.ensures
 
-pub add-head-spec : {M : Type 1} → statement M
-add-head-spec =
+pub add_head_spec : {M : Type 1} → statement M
+add_head_spec =
     tie.close
     (tie.spec
     add_wide

@@ -24,56 +24,56 @@ added {codes} {lists} {lists₁} {family} {code} {n} e f =
     let g : set (linked lists 0 512 n family) 3104 (n + 1) ≡ with_body lists family = ap (λ (x : ℕ). set (linked lists 0 512 x family) 3104 (x + 1)) e in
     record { placed = inr (e, ap (λ (x : ℕ). set codes x code) e, ap (λ (x : List ℕ). set x 3104 (n + 1)) f ∙ g) }
 
-add_wide : tie.Need-overflow-add-wide
+add_wide : tie.Need-overflow_add-family
 add_wide c = search rules
 
-mul_wide : tie.Need-overflow-mul-wide
+mul_wide : tie.Need-offset_bounds-lists-family
 mul_wide c = search rules
 
-element-copy-out-wide : tie.Need-element-copy-out-wide
+element-copy-out-wide : tie.Need-bounds-lists-family
 element-copy-out-wide c = search rules
 
-wide-requires : tie.Need-wide-requires
+wide-requires : tie.Need-wide-at-requires
 wide-requires c κs = search rules
 
-search-requires : tie.Need-search-requires
-search-requires c κs = rw c.before.before.wide.ensures.0 c.before.before.before.before.requires.0
+search-requires : tie.Need-search-c-requires
+search-requires c κs = rw c.wide-at.ensures.0 c.before.before.before.requires.0
 
-sub-result : tie.Need-overflow-sub-result
+sub-result : tie.Need-overflow_sub-result
 sub-result c = search rules
 
-returns : tie.Need-returns
-returns c = let e = c.before.before.before.before.wide.ensures.0 in found c.before.search.result c.before.search.ensures c.if1.true (omega (arith, c.before.before.before.before.before.before.requires.1.1.2))
+returns : tie.Need-returns-then-c-ne0
+returns c = let e = c.before.before.wide-at.ensures.0 in found c.before.search-c.result c.before.search-c.ensures c.if-c-ne0.true (omega (arith, c.before.before.before.before.before.requires.1.1.2))
 
-element-copy-out-wide-2 : tie.Need-element-copy-out-wide-2
+element-copy-out-wide-2 : tie.Need-bounds-lists-3104
 element-copy-out-wide-2 c = search rules
 
-wide-requires-2 : tie.Need-wide-requires-2
+wide-requires-2 : tie.Need-wide-b-requires
 wide-requires-2 c κs = search rules
 
-mul-codes : tie.Need-overflow-mul-codes
+mul-codes : tie.Need-offset_bounds-codes-b
 mul-codes c = search rules
 
-element-write-codes : tie.Need-element-write-codes
+element-write-codes : tie.Need-bounds-codes-b
 element-write-codes c = search rules
 
 link-requires : tie.Need-link-requires
 link-requires c κs = search rules
 
-add-lists : tie.Need-overflow-add-lists
+add-lists : tie.Need-overflow_add-lists
 add-lists c = search rules
 
-cast-lists : tie.Need-overflow-cast-lists
+cast-lists : tie.Need-overflow_cast-lists
 cast-lists c = search rules
 
-element-write-lists : tie.Need-element-write-lists
+element-write-lists : tie.Need-bounds-lists-3104-2
 element-write-lists c = search rules
 
-returns-2 : tie.Need-returns-2
-returns-2 c = added c.before.before.wide2.ensures.0 c.link.ensures
+returns-2 : tie.Need-returns
+returns-2 c = added c.before.before.before.before.wide-b.ensures.0 c.before.link.ensures
 
-pub body-at-spec : {M : Type 1} → statement M
-body-at-spec =
+pub body_at_spec : {M : Type 1} → statement M
+body_at_spec =
     tie.close
     (tie.spec
     add_wide

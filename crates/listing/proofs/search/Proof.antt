@@ -17,64 +17,64 @@ found-code : {codes : List ℕ} {base at code : ℕ} (c : ℕ) → c ≤ at → 
 found-code {codes} {base} c l e =
     record { low = l; found = λ i q. let p : base + i ≡ base + c - 1 = omega arith in ap (λ (x : ℕ). get_or codes x 0) p ∙ e }
 
-abbrev invariant-loop : tie.invariant-loop
+abbrev invariant-loop : tie.invariant-loop-c
 invariant-loop codes base lists prev at code c₀ c = c ≤ at
 
-abbrev decreases-loop : tie.decreases-loop
+abbrev decreases-loop : tie.decreases-loop-c
 decreases-loop codes base lists prev at code c₀ c = c
 
-loop-holds : tie.Need-loop-init invariant-loop decreases-loop
+loop-holds : tie.Need-loop-c-init invariant-loop decreases-loop
 loop-holds c = search rules
 
-add-if1 : tie.Need-overflow-add-if1 invariant-loop decreases-loop
+add-if1 : tie.Need-overflow_add-base invariant-loop decreases-loop
 add-if1 c = search rules
 
-sub-if1 : tie.Need-overflow-sub-if1 invariant-loop decreases-loop
+sub-if1 : tie.Need-overflow_sub-base invariant-loop decreases-loop
 sub-if1 c = search rules
 
-mul-if1 : tie.Need-overflow-mul-if1 invariant-loop decreases-loop
+mul-if1 : tie.Need-offset_bounds-codes-base invariant-loop decreases-loop
 mul-if1 c = search rules
 
-element-copy-out-if1 : tie.Need-element-copy-out-if1 invariant-loop decreases-loop
+element-copy-out-if1 : tie.Need-bounds-codes-base invariant-loop decreases-loop
 element-copy-out-if1 c = search rules
 
-returns : tie.Need-returns invariant-loop decreases-loop
-returns c = found-code c.before.before.before.loop.c c.before.before.before.loop.invariant c.if1.true
+returns : tie.Need-returns-then-codes-base invariant-loop decreases-loop
+returns c = found-code c.before.before.before.before.loop-c.c c.before.before.before.before.loop-c.invariant c.if-codes-base.true
 
-add_wide : tie.Need-overflow-add-wide invariant-loop decreases-loop
+add_wide : tie.Need-overflow_add-prev invariant-loop decreases-loop
 add_wide c = search rules
 
-sub_wide : tie.Need-overflow-sub-wide invariant-loop decreases-loop
+sub_wide : tie.Need-overflow_sub-prev invariant-loop decreases-loop
 sub_wide c = search rules
 
-mul_wide : tie.Need-overflow-mul-wide invariant-loop decreases-loop
+mul_wide : tie.Need-offset_bounds-lists-prev invariant-loop decreases-loop
 mul_wide c = search rules
 
-element-copy-out-wide : tie.Need-element-copy-out-wide invariant-loop decreases-loop
+element-copy-out-wide : tie.Need-bounds-lists-prev invariant-loop decreases-loop
 element-copy-out-wide c = search rules
 
-wide-requires : tie.Need-wide-requires invariant-loop decreases-loop
+wide-requires : tie.Need-wide-c-requires invariant-loop decreases-loop
 wide-requires c κs = search rules
 
-loop-less : tie.Need-loop-smaller invariant-loop decreases-loop
+loop-less : tie.Need-loop-c-smaller invariant-loop decreases-loop
 loop-less c =
-    let at = c.before.before.before.before.before.loop in
-    let h = next-lower c.before.before.before.before.before.before.requires at.c c.before.before.before.before.loop-test.true at.invariant in
-    let e = c.wide.ensures.0 in
+    let at = c.before.before.before.before.before.before.before.loop-c in
+    let h = next-lower c.before.before.before.before.before.before.before.before.requires at.c c.before.before.before.before.before.before.loop-c-test.true at.invariant in
+    let e = c.wide-c.ensures.0 in
     omega arith
 
-loop-again : tie.Need-loop-preserved invariant-loop decreases-loop
+loop-again : tie.Need-loop-c-preserved invariant-loop decreases-loop
 loop-again c =
-    let at = c.before.before.before.before.before.loop in
-    let h = next-lower c.before.before.before.before.before.before.requires at.c c.before.before.before.before.loop-test.true at.invariant in
-    let e = c.wide.ensures.0 in
+    let at = c.before.before.before.before.before.before.before.loop-c in
+    let h = next-lower c.before.before.before.before.before.before.before.before.requires at.c c.before.before.before.before.before.before.loop-c-test.true at.invariant in
+    let e = c.wide-c.ensures.0 in
     omega arith
 
-returns-2 : tie.Need-returns-2 invariant-loop decreases-loop
+returns-2 : tie.Need-returns invariant-loop decreases-loop
 returns-2 c = record { low = zero-le; found = λ i e. absurd (omega arith) }
 
-pub search-spec : {M : Type 1} → statement M
-search-spec =
+pub search_spec : {M : Type 1} → statement M
+search_spec =
     tie.close
     (tie.spec
     invariant-loop
