@@ -11,7 +11,7 @@ ghost use Rattle.steps.specs.Steps.{step_of, unkept, shown_of, shown_at, shown_i
 use policy::Statement;
 
 // A credential, the first and the second cited step, and the resulting set.
-#[derive(Drop)]
+#[derive(Clone, Copy)]
 pub struct Step {
     pub credential: u32,
     pub first: u32,
@@ -20,7 +20,7 @@ pub struct Step {
 }
 
 // Whether a step keeps the rules; if so, its role and its level.
-#[derive(Drop)]
+#[derive(Clone, Copy)]
 pub struct Judged {
     pub holds: bool,
     pub role: u32,
@@ -28,7 +28,7 @@ pub struct Judged {
 }
 
 // The membership that an earlier step shows, and its level.
-#[derive(Drop)]
+#[derive(Clone, Copy)]
 struct Cited {
     role: u32,
     set: u32,

@@ -8,23 +8,23 @@ use borrow.Author.Rules.{rules}
 use Rattle.steps.proofs.by_one.Statement.{statement}
 use Rattle.steps.proofs.by_one.Tie as tie
 
-cast-j : tie.Need-overflow-cast-j
+cast-j : tie.Need-overflow_cast-j
 cast-j c = search rules
 
 broken-requires : tie.Need-broken-requires
 broken-requires c κs = search rules
 
-returns : tie.Need-returns
-returns c = let a = c.before.before.before.before.args in one-late a.roles.now a.sets.now a.levels.now a.i a.b (step_of a.s) c.before.before.before.before.requires.0 c.broken.result c.before.if1.true c.broken.ensures
+returns : tie.Need-returns-then-i-j
+returns c = let a = c.before.before.before.before.args in one-late a.roles.now a.sets.now a.levels.now a.i a.b (step_of a.s) c.before.before.before.before.requires.0 c.broken.result c.before.if-i-j.true c.broken.ensures
 
-cite-requires : tie.Need-cite-requires
+cite-requires : tie.Need-cite-p-requires
 cite-requires c κs = search rules
 
-add-t14 : tie.Need-overflow-add-t14
-add-t14 c = let s = c.before.before.before.before.before.before.before.before.before.before in omega (arith, s.requires.1.few, s.requires.1.low s.args.s.first c.before.before.before.before.before.before.before.if1.false, ap (λ (x : Shown). x.level) c.before.before.before.before.before.before.cite.ensures)
+add-t14 : tie.Need-overflow_add-result
+add-t14 c = let s = c.before.before.before.before.before.before.before.before.before.before in omega (arith, s.requires.1.few, s.requires.1.low s.args.s.first c.before.before.before.before.before.before.before.if-i-j.false, ap (λ (x : Shown). x.level) c.before.before.before.before.before.before.cite-p.ensures)
 
-returns-2 : tie.Need-returns-2
-returns-2 c = let a = c.before.before.before.before.before.before.before.before.before.before.args in one-cited a.roles.now a.sets.now a.levels.now a.i a.b (step_of a.s) c.before.before.before.before.before.before.before.before.before.before.requires.0 c.before.before.before.before.before.before.before.before.before.before.requires.1 c.before.before.before.before.before.before.before.if1.false c.before.before.before.before.before.before.cite.ensures
+returns-2 : tie.Need-returns
+returns-2 c = let a = c.before.before.before.before.before.before.before.before.before.before.args in one-cited a.roles.now a.sets.now a.levels.now a.i a.b (step_of a.s) c.before.before.before.before.before.before.before.before.before.before.requires.0 c.before.before.before.before.before.before.before.before.before.before.requires.1 c.before.before.before.before.before.before.before.if-i-j.false c.before.before.before.before.before.before.cite-p.ensures
 
-pub by-one-spec : {M : Type 1} → statement M
-by-one-spec = tie.close (tie.spec cast-j broken-requires returns cite-requires add-t14 returns-2)
+pub by_one_spec : {M : Type 1} → statement M
+by_one_spec = tie.close (tie.spec cast-j broken-requires returns cite-requires add-t14 returns-2)
