@@ -125,6 +125,7 @@ bytes_of-zeros k (suc n) =
 
 -- the entry at j
 pub get_d-first : (k n : ℕ) (bs : List ℕ) (j : ℕ) → j < n → get_or (first_entries k n bs) j 0 ≡ entry k (drop (k * j) bs)
+get_d-first k zero bs j h = elim h [ ]
 get_d-first k (suc n) bs zero h = ap (λ (m : ℕ). entry k (drop m bs)) (sym (mul-zero k))
 get_d-first k (suc n) bs (suc j) h =
     let m : k + k * j ≡ k * suc j = omega (arith, mul-suc k j) in

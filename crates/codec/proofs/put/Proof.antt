@@ -10,35 +10,35 @@ use borrow.Author.Rules.{rules}
 use Rattle.codec.proofs.put.Statement.{statement}
 use Rattle.codec.proofs.put.Tie as tie
 
-abbrev invariant-loop : tie.invariant-loop
+abbrev invariant-loop : tie.invariant-loop-i
 invariant-loop dst₀ x rest₀ i₀ dst rest i = (i ≤ length dst₀) × (length dst ≡ length dst₀) × (take i dst ++ bytes (length dst₀ - i) rest ≡ bytes (length dst₀) x)
 
-abbrev decreases-loop : tie.decreases-loop
+abbrev decreases-loop : tie.decreases-loop-i
 decreases-loop dst₀ x rest₀ i₀ dst rest i = length dst₀ - i
 
-loop-holds : tie.Need-loop-init invariant-loop decreases-loop
+loop-holds : tie.Need-loop-i-init invariant-loop decreases-loop
 loop-holds c = (omega arith, refl, put-none (length c.args.dst.now) c.args.x)
 
-cast-dst : tie.Need-overflow-cast-dst invariant-loop decreases-loop
+cast-dst : tie.Need-overflow_cast-dst invariant-loop decreases-loop
 cast-dst c = search rules
 
-slice-write-dst : tie.Need-slice-write-dst invariant-loop decreases-loop
+slice-write-dst : tie.Need-bounds-dst-i invariant-loop decreases-loop
 slice-write-dst c = search rules
 
-add-i : tie.Need-overflow-add-i invariant-loop decreases-loop
+add-i : tie.Need-overflow_add-i invariant-loop decreases-loop
 add-i c = search rules
 
-loop-less : tie.Need-loop-smaller invariant-loop decreases-loop
+loop-less : tie.Need-loop-i-smaller invariant-loop decreases-loop
 loop-less c = search rules
 
-loop-again : tie.Need-loop-preserved invariant-loop decreases-loop
-loop-again c = let l = c.before.loop in (omega arith, simp length-set l.invariant.1, put-more (length c.before.before.args.dst.now) l.i l.rest l.dst _ (omega arith) l.invariant.1 l.invariant.2)
+loop-again : tie.Need-loop-i-preserved invariant-loop decreases-loop
+loop-again c = let l = c.before.loop-i in (omega arith, simp length-set l.invariant.1, put-more (length c.before.before.args.dst.now) l.i l.rest l.dst _ (omega arith) l.invariant.1 l.invariant.2)
 
-same_length : tie.Need-same-length invariant-loop decreases-loop
+same_length : tie.Need-shape_of-dst invariant-loop decreases-loop
 same_length c = search rules
 
 returns : tie.Need-returns invariant-loop decreases-loop
-returns c = let l = c.before.loop in put_all (length c.before.before.args.dst.now) l.i l.rest l.dst _ (omega arith) l.invariant.1 l.invariant.2
+returns c = let l = c.before.loop-i in put_all (length c.before.before.args.dst.now) l.i l.rest l.dst _ (omega arith) l.invariant.1 l.invariant.2
 
 pub put_spec : {M : Type 1} → statement M
 put_spec =
