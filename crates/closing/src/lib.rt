@@ -10,7 +10,7 @@ ghost use Rattle.closing.specs.Passes.{GaveAny, Still};
 use giving::Visit;
 
 // How many entries there are, and whether one of them gave.
-#[derive(Drop)]
+#[derive(Clone, Copy)]
 struct Progress {
     entries: usize,
     any: bool,
