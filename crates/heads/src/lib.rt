@@ -9,7 +9,7 @@ ghost use Rattle.heads.specs.Heads.{Ready, One, ByHead, Headed, Coverings, crede
 
 // A set for the heads of a body, in some spans; the words of the entry that gives it and of its partner, each one more than the entry's number, 0 where there is
 // no partner. A new entry past the limit is not added.
-#[derive(Drop)]
+#[derive(Clone, Copy)]
 pub struct Gift {
     pub limit: usize,
     pub body: usize,
