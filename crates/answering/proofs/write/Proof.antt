@@ -10,46 +10,46 @@ use Rattle.answering.proofs.put_sets.Reads as put-sets-reads
 use Rattle.answering.proofs.put_words.Reads as put-words-reads
 
 -- src/lib.rt:48:5
-put-words-requires : tie.Need-put-words-requires
+put-words-requires : tie.Need-put_words-requires
 put-words-requires c κs = search rules
 
 -- src/lib.rt:49:5
-put-words-requires-2 : tie.Need-put-words-requires-2
+put-words-requires-2 : tie.Need-put_words-requires-2
 put-words-requires-2 c κs = search rules
 
 -- src/lib.rt:50:5
-put-words-requires-3 : tie.Need-put-words-requires-3
+put-words-requires-3 : tie.Need-put_words-requires-3
 put-words-requires-3 c κs = search rules
 
 -- src/lib.rt:51:5
-put-sets-requires : tie.Need-put-sets-requires
+put-sets-requires : tie.Need-put_sets-requires
 put-sets-requires c κs = search rules
 
 -- src/lib.rt:36:1
-same_length : tie.Need-same-length
+same_length : tie.Need-shape_of-credential
 same_length c = search rules
 
 -- src/lib.rt:36:1
-same-length-2 : tie.Need-same-length-2
+same-length-2 : tie.Need-shape_of-first
 same-length-2 c = search rules
 
 -- src/lib.rt:36:1
-same-length-3 : tie.Need-same-length-3
+same-length-3 : tie.Need-shape_of-second
 same-length-3 c = search rules
 
 -- src/lib.rt:36:1
-same-length-4 : tie.Need-same-length-4
+same-length-4 : tie.Need-shape_of-sets
 same-length-4 c = search rules
 
 -- src/lib.rt:36:1
 returns : tie.Need-returns
 returns c = let a = c.before.before.before.before.before.before.before.before.before.before.before.before.before.before.before.before.before.before.before.before.args in (
-  column-words a.keys.now a.notes.now a.count (λ s. s.credential) (length a.credential.now) c.before.before.before.before.before.before.before.before.before.before.before.before.before.before.put-words.ensures,
+  column-words a.keys.now a.notes.now a.count (λ s. s.credential) (length a.credential.now) c.before.before.before.before.before.before.before.before.before.before.before.before.before.before.put_words.ensures,
   (
-    column-words a.keys.now a.notes.now a.count (λ s. s.first) (length a.first.now) c.before.before.before.before.before.before.before.before.before.before.put-words2.ensures,
+    column-words a.keys.now a.notes.now a.count (λ s. s.first) (length a.first.now) c.before.before.before.before.before.before.before.before.before.before.put_words-2.ensures,
     (
-      column-words a.keys.now a.notes.now a.count (λ s. s.second) (length a.second.now) c.before.before.before.before.before.before.put-words3.ensures,
-      column-words a.keys.now a.notes.now a.count (λ s. s.set) (length a.sets.now) c.before.before.put-sets.ensures,
+      column-words a.keys.now a.notes.now a.count (λ s. s.second) (length a.second.now) c.before.before.before.before.before.before.put_words-3.ensures,
+      column-words a.keys.now a.notes.now a.count (λ s. s.set) (length a.sets.now) c.before.before.put_sets.ensures,
     ),
   ),
 )
