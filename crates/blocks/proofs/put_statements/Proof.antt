@@ -11,64 +11,64 @@ use borrow.Author.Rules.{rules}
 use Rattle.blocks.proofs.put_statements.Statement.{statement}
 use Rattle.blocks.proofs.put_statements.Tie as tie
 
-abbrev invariant-loop : tie.invariant-loop
+abbrev invariant-loop : tie.invariant-loop-i
 invariant-loop dst₀ src n i₀ dst i = Blocks dst₀ 6 12 n (serialled src) i dst
 
-abbrev decreases-loop : tie.decreases-loop
+abbrev decreases-loop : tie.decreases-loop-i
 decreases-loop dst₀ src n i₀ dst i = n - i
 
-loop-holds : tie.Need-loop-init invariant-loop decreases-loop
+loop-holds : tie.Need-loop-i-init invariant-loop decreases-loop
 loop-holds c = let a = c.before.before.args in blocks-none a.dst.now 6 12 a.n (serialled a.src.now)
 
-mul-from : tie.Need-overflow-mul-from invariant-loop decreases-loop
+mul-from : tie.Need-overflow_mul-from invariant-loop decreases-loop
 mul-from c = search rules
 
-add-from : tie.Need-overflow-add-from invariant-loop decreases-loop
+add-from : tie.Need-overflow_add-from invariant-loop decreases-loop
 add-from c = search rules
 
-mul-put-with : tie.Need-overflow-mul-put-with invariant-loop decreases-loop
+mul-put-with : tie.Need-overflow_mul-i invariant-loop decreases-loop
 mul-put-with c = search rules
 
-add-put-with : tie.Need-overflow-add-put-with invariant-loop decreases-loop
+add-put-with : tie.Need-overflow_add-i invariant-loop decreases-loop
 add-put-with c = search rules
 
-add-put-with-2 : tie.Need-overflow-add-put-with-2 invariant-loop decreases-loop
+add-put-with-2 : tie.Need-overflow_add-from-in-loop-i invariant-loop decreases-loop
 add-put-with-2 c = search rules
 
-sub-put-with : tie.Need-overflow-sub-put-with invariant-loop decreases-loop
+sub-put-with : tie.Need-slice_bounds-put_with-count invariant-loop decreases-loop
 sub-put-with c = search rules
 
-part-put-with-start : tie.Need-slice-bounds-put-with-start invariant-loop decreases-loop
+part-put-with-start : tie.Need-slice_bounds-put_with-start invariant-loop decreases-loop
 part-put-with-start c = search rules
 
-part-put-with-end : tie.Need-slice-bounds-put-with-end invariant-loop decreases-loop
+part-put-with-end : tie.Need-slice_bounds-put_with-end invariant-loop decreases-loop
 part-put-with-end c = search rules
 
-add-put-with-3 : tie.Need-overflow-add-put-with-3 invariant-loop decreases-loop
+add-put-with-3 : tie.Need-overflow_add-i-in-loop-i invariant-loop decreases-loop
 add-put-with-3 c = search rules
 
-put-with-requires : tie.Need-put-with-requires invariant-loop decreases-loop
-put-with-requires c κs = let a = c.before.before.before.before.before.before.args in let l = c.before.before.before.loop in omega (arith, part_length a.src.now (6 + 8 * l.i) 8 (omega arith), l.invariant.long)
+put-with-requires : tie.Need-put_with-requires invariant-loop decreases-loop
+put-with-requires c κs = let a = c.before.before.before.before.before.before.args in let l = c.before.before.before.loop-i in omega (arith, part_length a.src.now (6 + 8 * l.i) 8 (omega arith), l.invariant.long)
 
-add-i : tie.Need-overflow-add-i invariant-loop decreases-loop
+add-i : tie.Need-overflow_add-i-in-loop-i-2 invariant-loop decreases-loop
 add-i c = search rules
 
-loop-less : tie.Need-loop-smaller invariant-loop decreases-loop
+loop-less : tie.Need-loop-i-smaller invariant-loop decreases-loop
 loop-less c = search rules
 
-loop-again : tie.Need-loop-preserved invariant-loop decreases-loop
-loop-again c = let a = c.before.before.before.before.before.before.before.before.before.args in let l = c.before.before.before.before.before.before.loop in
-    blocks_more a.dst.now 6 12 a.n (serialled a.src.now) l.i l.invariant c.before.before.before.before.before.loop-test.true (with-length a.src.now (6 + 8 * l.i) 8 (omega arith) (l.i + 1)) (omega arith)
-    (c.before.before.put-with.ensures ∙ ap (λ (k : ℕ). written l.dst (6 + 12 * l.i) (take k (drop (6 + 8 * l.i) a.src.now) ++ bytes 4 (l.i + 1))) (part-size a.src.now (6 + 8 * l.i) 8 (omega arith)))
+loop-again : tie.Need-loop-i-preserved invariant-loop decreases-loop
+loop-again c = let a = c.before.before.before.before.before.before.before.before.before.args in let l = c.before.before.before.before.before.before.loop-i in
+    blocks_more a.dst.now 6 12 a.n (serialled a.src.now) l.i l.invariant c.before.before.before.before.before.loop-i-test.true (with-length a.src.now (6 + 8 * l.i) 8 (omega arith) (l.i + 1)) (omega arith)
+    (c.before.before.put_with.ensures ∙ ap (λ (k : ℕ). written l.dst (6 + 12 * l.i) (take k (drop (6 + 8 * l.i) a.src.now) ++ bytes 4 (l.i + 1))) (part-size a.src.now (6 + 8 * l.i) 8 (omega arith)))
 
-same_length : tie.Need-same-length invariant-loop decreases-loop
+same_length : tie.Need-shape_of-dst invariant-loop decreases-loop
 same_length c = search rules
 
 returns : tie.Need-returns invariant-loop decreases-loop
-returns c = let a = c.before.before.before.before.args in let l = c.before.loop in blocks-all a.dst.now 6 12 a.n (serialled a.src.now) l.i l.invariant c.loop-test.false
+returns c = let a = c.before.before.before.before.args in let l = c.before.loop-i in blocks-all a.dst.now 6 12 a.n (serialled a.src.now) l.i l.invariant c.loop-i-test.false
 
-pub put-statements-spec : {M : Type 1} → statement M
-put-statements-spec =
+pub put_statements_spec : {M : Type 1} → statement M
+put_statements_spec =
     tie.close
     (tie.spec
     invariant-loop
