@@ -8,7 +8,7 @@ ghost use Rattle.premises.specs.Moves.{Codable, WithOne, Walking, Plans};
 use waiting::Offer;
 
 // Entry e gives what it can in some spans. `last` says that no entry after it is done yet; false is always right. A new entry past the limit is not added.
-#[derive(Drop)]
+#[derive(Clone, Copy)]
 pub struct Turn {
     pub limit: usize,
     pub e: usize,
@@ -17,7 +17,7 @@ pub struct Turn {
 }
 
 // What a body gets: a set in some spans, with the word of a partner; or what an offer gives with each entry from start - 1 down its role's list.
-#[derive(Drop)]
+#[derive(Clone, Copy)]
 pub struct Move {
     pub each: bool,
     pub start: usize,
