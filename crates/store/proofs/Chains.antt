@@ -1,5 +1,5 @@
 -- Lists by family: `latest` and `Chained`, and how an item is pushed.
-use mathlib.Core.Path.{◌≡◌, refl, sym, ap, ◌∙◌}
+use mathlib.Core.Path.{◌≡◌, refl, sym, ap, ◌∙◌, subst⁻¹}
 use mathlib.Core.Logic.{◌⊎◌, inl, inr}
 use mathlib.Core.Bool.{Bool, true, false}
 use mathlib.Core.List.{List}
@@ -97,7 +97,7 @@ chained-push {family} {families} {n} {last} {prev} family' last' prev' r h f of 
     record { lasts = λ s k. lasts' s k (equal_or_not s r); prevs = λ i k. prevs' i (last-or-below k) }
   where
     lasts' : (s : ℕ) → s < families → (s ≡ r) ⊎ (s ≡ r → ⊥) → last' s ≡ latest family' s (suc n)
-    lasts' s k (inl e) = rw e (new ∙ sym (latest-hit family' r n of))
+    lasts' s k (inl e) = subst⁻¹ (λ (x : ℕ). last' x ≡ latest family' x (suc n)) e (new ∙ sym (latest-hit family' r n of))
     lasts' s k (inr ne) = others s k ne ∙ h.lasts s k ∙ sym (latest-miss family' s n (λ e. ne (sym e ∙ of)) ∙ latest-same family s family' n f)
 
     prevs' : (i : ℕ) → (i ≡ n) ⊎ (i < n) → prev' i ≡ latest family' (family' i) i

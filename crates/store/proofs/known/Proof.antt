@@ -14,30 +14,30 @@ use Rattle.store.proofs.known.Tie as tie
 bit_in : (a m s : ℕ) → bit_and a m ≡ m → bit m s ≡ 1 → bit a s ≡ 1
 bit_in a m s e b = let f = ap (λ (x : ℕ). bit x s) e in omega (arith, bit-and a m s, bit-below-two a s)
 
-entry-of-requires : tie.Need-entry-of-requires
+entry-of-requires : tie.Need-entry_of-c-requires
 entry-of-requires c κs = search rules
 
-returns : tie.Need-returns
+returns : tie.Need-returns-then-c-eq0
 returns c = λ e. absurd (search rules)
 
-sub-result : tie.Need-overflow-sub-result
+sub-result : tie.Need-overflow_sub-result
 sub-result c = search rules
 
-mul-result : tie.Need-overflow-mul-result
-mul-result c = let u = c.before.entry_of.ensures.within in omega arith
+mul-result : tie.Need-offset_bounds-spans-c
+mul-result c = let u = c.before.entry_of-c.ensures.within in omega arith
 
-element-copy-out-result : tie.Need-element-copy-out-result
-element-copy-out-result c = let u = c.before.entry_of.ensures.within in omega (arith, c.if1.false)
+element-copy-out-result : tie.Need-bounds-spans-c
+element-copy-out-result c = let u = c.before.before.entry_of-c.ensures.within in omega (arith, c.before.if-c-eq0.false)
 
-returns-2 : tie.Need-returns-2
+returns-2 : tie.Need-returns
 returns-2 c = λ e n o.
-    let b = c.before in
+    let b = c.before.before in
     let a = b.before.before.args in
-    let i = b.before.entry_of.result - 1 in
-    let u = (b.before.entry_of.ensures.entry n o).present i (omega (arith, b.if1.false)) in
+    let i = b.before.entry_of-c.result - 1 in
+    let u = (b.before.entry_of-c.ensures.entry n o).present i (omega (arith, b.if-c-eq0.false)) in
     (i, u.0, u.1, λ s. bit_in (get_or a.spans.now i 0) a.m s (eqb-true _ _ e))
 
-pub known-spec : {M : Type 1} → statement M
-known-spec =
+pub known_spec : {M : Type 1} → statement M
+known_spec =
     tie.close
     (tie.spec entry-of-requires returns sub-result mul-result element-copy-out-result returns-2)
