@@ -8,7 +8,7 @@ ghost use Rattle.asking.specs.Asking.{request, StepLists, Sized};
 ghost use Rattle.asking.specs.Admitting.{Admits};
 
 // Number and place of the first refusal of 1 to 9, 11, 12, 17, 20 and 21; where there is none, 0 and 0, and how many credentials the policy then has.
-#[derive(Drop)]
+#[derive(Clone, Copy)]
 pub struct Admission {
     pub number: u32,
     pub place: u32,
@@ -28,7 +28,7 @@ pub fn judge(
     second: usize,
     sets: usize,
 ) -> Admission
-    ensures { (t : StepLists) → Sized t credential first second sets → Admits (file.now without (λ x. x.now) withdrawals.entry) (request role set minute) t policy.new result }
+    ensures { (t : StepLists) → Sized t credential first second sets → Admits (file.now without withdrawals.now) (request role set minute) t policy.new result }
 {
     let mut ends = survey::no_ends();
     let s = survey::survey(policy, &mut ends, file, withdrawals);
