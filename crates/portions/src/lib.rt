@@ -12,7 +12,7 @@ use heads::Gift;
 use waiting::{Offer, Pair};
 
 // A body, an offer of the entry with the word `own`, and entry start - 1 with those before it in its role's list, which are paired with it.
-#[derive(Drop)]
+#[derive(Clone, Copy)]
 pub struct Plan {
     pub limit: usize,
     pub body: usize,

@@ -10,71 +10,71 @@ use Rattle.portions.proofs.Gathering.{partner-low, portion-over, portion-next}
 use Rattle.portions.proofs.with_heads.Statement.{statement}
 use Rattle.portions.proofs.with_heads.Tie as tie
 
-abbrev invariant-loop : tie.invariant-loop
+abbrev invariant-loop : tie.invariant-loop-at
 invariant-loop keys₀ spans₀ slots₀ links₀ notes₀ done codes valid lists n p limit o places₀ r₀ at₀ keys spans slots links notes places r at =
     Walked limit keys₀ spans₀ notes₀ n codes valid lists p.body p.own done p.start p.offer keys spans slots links notes r at × (length places ≡ 97)
 
-abbrev decreases-loop : tie.decreases-loop
+abbrev decreases-loop : tie.decreases-loop-at
 decreases-loop keys₀ spans₀ slots₀ links₀ notes₀ done codes valid lists n p limit o places₀ r₀ at₀ keys spans slots links notes places r at = at
 
 -- the loop and the function's entry, from a portion
-abbrev looped : tie.After-gather invariant-loop decreases-loop → tie.At-loop invariant-loop decreases-loop
-looped g = g.before.before.before.before.before
+abbrev looped : tie.After-gather-g invariant-loop decreases-loop → tie.At-loop-at invariant-loop decreases-loop
+looped g = g.before.before.before
 
-abbrev start : tie.After-gather invariant-loop decreases-loop → tie.Start invariant-loop decreases-loop
+abbrev start : tie.After-gather-g invariant-loop decreases-loop → tie.Start invariant-loop decreases-loop
 start g = (looped g).before.before.before
 
 -- a place of the list
-abbrev placed : (g : tie.After-gather invariant-loop decreases-loop) → (looped g).loop.at ≡ 0 → ⊥
-placed g = g.before.before.before.before.loop-test.true
+abbrev placed : (g : tie.After-gather-g invariant-loop decreases-loop) → (looped g).loop-at.at ≡ 0 → ⊥
+placed g = g.before.before.loop-at-test.true
 
-room-requires : tie.Need-room-requires invariant-loop decreases-loop
+room-requires : tie.Need-room-places-requires invariant-loop decreases-loop
 room-requires c κs = tt
 
-loop-holds : tie.Need-loop-init invariant-loop decreases-loop
+loop-holds : tie.Need-loop-at-init invariant-loop decreases-loop
 loop-holds c =
     let a = c.before.before.args in
     let p = c.before.before.requires in
-    (along-start p.0.kept p.0.few.0 (roles-start (role_of a.keys.now) a.p.start), c.room.ensures)
+    (along-start p.0.kept p.0.few.0 (roles-start (role_of a.keys.now) a.p.start), c.room-places.ensures)
 
-gather-requires : tie.Need-gather-requires invariant-loop decreases-loop
+gather-requires : tie.Need-gather-g-requires invariant-loop decreases-loop
 gather-requires c κs =
-    let p = c.before.before.before.before.before.before.before.requires in
-    let l = c.before.before.before.before.loop in
+    let p = c.before.before.before.before.before.requires in
+    let l = c.before.before.loop-at in
     let v = l.invariant.0 in
     let k = (v.gains.kept v.few).stored in
     let m = (v.gains.grown v.few).more in
-    let w = v.on c.before.before.before.loop-test.true in
+    let w = v.on c.before.loop-at-test.true in
     (l.invariant.1, p.1.1, omega (arith, p.0.few, p.1), lists-less l.keys l.links l.at (omega (arith, p.1)) (stored-lists k))
 
-add-waiting-requires : tie.Need-add-waiting-requires invariant-loop decreases-loop
+add-waiting-requires : tie.Need-add_waiting-r-requires invariant-loop decreases-loop
 add-waiting-requires c κs =
     let g = c.before.before.before.before.before.before in
     let p = (start g).requires in
-    let v = (looped g).loop.invariant.0 in
+    let v = (looped g).loop-at.invariant.0 in
     let m = (v.gains.grown v.few).more in
-    (record { kept = v.gains.kept v.few; few = (v.few, p.0.few.1); listed = p.0.listed; low = p.0.low }, ((g.gather.ensures.waiting.few, omega (arith, p.1)), partner-low (start g).args.p.offer v p.1.0 (placed g) g.gather.ensures))
+    (record { kept = v.gains.kept v.few; few = (v.few, p.0.few.1); listed = p.0.listed; low = p.0.low }, ((g.gather-g.ensures.waiting.few, omega (arith, p.1)), partner-low (start g).args.p.offer v p.1.0 (placed g) g.gather-g.ensures))
 
-returns : tie.Need-returns invariant-loop decreases-loop
+returns : tie.Need-returns-then-limit-r invariant-loop decreases-loop
 returns c =
     let g = c.before.before.before.before.before.before.before.before in
     let p = (start g).requires in
-    portion-over (start g).args.p.offer (looped g).loop.invariant.0 p.1.0 (placed g) g.gather.ensures c.before.add-waiting.ensures c.if1.true
+    portion-over (start g).args.p.offer (looped g).loop-at.invariant.0 p.1.0 (placed g) g.gather-g.ensures c.before.add_waiting-r.ensures c.if-limit-r.true
 
-loop-less : tie.Need-loop-smaller invariant-loop decreases-loop
-loop-less c = let g = c.before.before.before.before.before.before.before.before in g.gather.ensures.less (placed g)
+loop-less : tie.Need-loop-at-smaller invariant-loop decreases-loop
+loop-less c = let g = c.before.before.before.before.before.before.before.before in g.gather-g.ensures.less (placed g)
 
-loop-again : tie.Need-loop-preserved invariant-loop decreases-loop
+loop-again : tie.Need-loop-at-preserved invariant-loop decreases-loop
 loop-again c =
     let g = c.before.before.before.before.before.before.before.before in
     let p = (start g).requires in
-    (portion-next (start g).args.p.offer (looped g).loop.invariant.0 p.1.0 (placed g) g.gather.ensures c.before.add-waiting.ensures c.if1.false, g.gather.ensures.waiting.room)
+    (portion-next (start g).args.p.offer (looped g).loop-at.invariant.0 p.1.0 (placed g) g.gather-g.ensures c.before.add_waiting-r.ensures c.if-limit-r.false, g.gather-g.ensures.waiting.room)
 
-returns-2 : tie.Need-returns-2 invariant-loop decreases-loop
-returns-2 c = along-end c.before.loop.invariant.0 c.loop-test.false
+returns-2 : tie.Need-returns invariant-loop decreases-loop
+returns-2 c = along-end c.before.loop-at.invariant.0 c.loop-at-test.false
 
-pub with-heads-spec : {M : Type 1} → statement M
-with-heads-spec =
+pub with_heads_spec : {M : Type 1} → statement M
+with_heads_spec =
     tie.close
     (tie.spec
     invariant-loop
