@@ -3,9 +3,9 @@
 
 ghost use Rattle.std.specs.Prelude.{◌≡◌, ◌+◌, ◌≤◌, length};
 ghost use Rattle.file_sentences.specs.FileSentences.{longest};
-ghost use Rattle.io.specs.Counts.{IsPrefixLen};
 
-use libc::{STDERR_FILENO, STDIN_FILENO, STDOUT_FILENO};
+use std::io;
+use std::io::{Cursor, Read, Write};
 
 // One byte more than the longest valid file, so that a longer input is refused as one.
 pub fn room() -> [u8; 5127]
@@ -15,26 +15,31 @@ pub fn room() -> [u8; 5127]
 }
 
 // What was read.
-#[derive(Drop)]
+#[derive(Clone, Copy)]
 pub struct Input {
     pub count: usize,
     pub failed: bool,
 }
 
 // Reads standard input until it ends or the room is full, and says how many bytes there are; or that a read failed, which standard error then says too.
-pub fn read(file: &mut [u8]) -> Input
-    ensures { IsPrefixLen result.count file.new }
+pub fn read<R: Read, E: Print>(input: &mut R, err: &E, file: &mut [u8]) -> Input
+    ensures { result.count ≤ length file.new }
 {
-    read_from(STDIN_FILENO, file, b"standard input cannot be read")
+    read_from(input, err, file, b"standard input cannot be read")
 }
 
 // The same of an open file. `failure` is what standard error says where a read failed.
-pub fn read_from(fd: i32, file: &mut [u8], failure: &[u8]) -> Input
-    ensures { IsPrefixLen result.count file.new }
+pub fn read_from<R: Read, E: Print>(
+    source: &mut R,
+    err: &E,
+    file: &mut [u8],
+    failure: &[u8],
+) -> Input
+    ensures { result.count ≤ length file.new }
 {
     let mut n = 0;
     while n < file.len() {
-        let more = read_on(fd, file, n, failure);
+        let more = read_on(source, err, file, n, failure);
         let k = more.count;
         if k == 0 {
             return Input {
@@ -65,86 +70,116 @@ pub fn numbers64() -> [u64; 1024]
 }
 
 // Writes the first n bytes of a line to standard output, and says whether it could; standard error says where it could not.
-pub fn write_line(line: &[u8; 128], n: usize) -> bool
+pub fn write_line<O: Print, E: Print>(out: &O, err: &E, line: &[u8; 128], n: usize) -> bool
     requires { n ≤ 128 }
 {
-    let written = write(STDOUT_FILENO, line, n);
-    if !written {
-        os::fail(b"standard output cannot be written");
+    match write(out, line, n) {
+        Ok(()) => true,
+        Err(why) => {
+            fail(err, b"standard output cannot be written", why);
+            false
+        }
     }
-    written
 }
 
 // Writes the first n bytes of a line to standard error.
-pub fn write_error(line: &[u8; 128], n: usize)
+pub fn write_error<E: Print>(err: &E, line: &[u8; 128], n: usize)
     requires { n ≤ 128 }
 {
-    write(STDERR_FILENO, line, n);
+    let _ = write(err, line, n);
 }
 
 // Writes the first n bytes of a sentence to standard error.
-pub fn write_sentence(line: &[u8; 256], n: usize)
+pub fn write_sentence<E: Print>(err: &E, line: &[u8; 256], n: usize)
     requires { n ≤ 256 }
 {
-    write(STDERR_FILENO, line, n);
+    let _ = write(err, line, n);
 }
 
 // Writes a line of one number, and says whether it could.
-pub fn print_number(x: u32) -> bool {
+pub fn print_number<O: Print, E: Print>(out: &O, err: &E, x: u32) -> bool {
     let mut line = [0u8; 128];
     let n = lines::number_line(&mut line, x);
-    write_line(&line, n)
+    write_line(out, err, &line, n)
 }
 
 // Writes a line of two numbers, and says whether it could.
-pub fn print_pair(x: u32, y: u32) -> bool {
+pub fn print_pair<O: Print, E: Print>(out: &O, err: &E, x: u32, y: u32) -> bool {
     let mut line = [0u8; 128];
     let n = lines::pair_line(&mut line, x, y);
-    write_line(&line, n)
+    write_line(out, err, &line, n)
 }
 
 // Writes a line of `refused`, number, place.
-pub fn print_refusal(number: u32, place: u32) {
+pub fn print_refusal<O: Print, E: Print>(out: &O, err: &E, number: u32, place: u32) {
     let mut line = [0u8; 128];
     let n = lines::refused_line(&mut line, number, place);
-    write_line(&line, n);
+    write_line(out, err, &line, n);
 }
 
 // Says to standard error what a refusal of a file means.
-pub fn explain(file: &[u8], number: u32, place: u32) {
+pub fn explain<E: Print>(err: &E, file: &[u8], number: u32, place: u32) {
     let mut line = [0u8; 256];
     let n = file_sentences::file_line(&mut line, file, number, place);
-    write_sentence(&line, n);
+    write_sentence(err, &line, n);
 }
 
 // Writes how a program is called to standard error.
-pub fn usage(lines: &[u8]) {
-    io::write_all(STDERR_FILENO, lines);
+pub fn usage<E: Print>(err: &E, lines: &[u8]) {
+    let _ = err.write_all(lines);
+}
+
+// Writes a line to standard error: what failed, a colon and the system's reason. That standard error cannot be written is said nowhere.
+pub fn fail<E: Print>(err: &E, what: &[u8], why: io::Error) {
+    let mut line = Cursor::new([0u8; 256]);
+    let _ = write!(line, "{why}");
+    let n = (line.position() as usize).min(256);
+    let _ = err.write_all(what);
+    let _ = err.write_all(b": ");
+    let _ = err.write_all(reason(&line.get_ref()[..n]));
+    let _ = err.write_all(b"\n");
+}
+
+// An error as text without the system's number of it, which stands behind the reason as ` (os error 28)`.
+fn reason(text: &[u8]) -> &[u8] {
+    match str::from_utf8(text) {
+        Ok(all) => match all.rsplit_once(" (os error ") {
+            Some((before, _)) => before.as_bytes(),
+            None => text,
+        },
+        Err(_) => text,
+    }
 }
 
 // Writes the first n of some bytes.
-fn write(fd: i32, bytes: &[u8], n: usize) -> bool
+fn write<W: Print>(to: &W, bytes: &[u8], n: usize) -> io::Result<()>
     requires { n ≤ length bytes.now }
 {
-    io::write_all(fd, &bytes[..n])
+    to.write_all(&bytes[..n])
 }
 
 // Reads once to the places from n on: how many bytes came, none at the end of the input or where the read failed.
-fn read_on(fd: i32, file: &mut [u8], n: usize, failure: &[u8]) -> Input
+fn read_on<R: Read, E: Print>(
+    source: &mut R,
+    err: &E,
+    file: &mut [u8],
+    n: usize,
+    failure: &[u8],
+) -> Input
     requires { n ≤ length file.old }
     ensures { n + result.count ≤ length file.old }
 {
-    let rest = &mut file[n..];
-    let got = libc::read(fd, rest);
-    if got < 0 {
-        os::fail(failure);
-        return Input {
-            count: 0,
-            failed: true,
-        };
-    }
-    Input {
-        count: io::count(got, rest),
-        failed: false,
+    match source.read(&mut file[n..]) {
+        Ok(count) => Input {
+            count,
+            failed: false,
+        },
+        Err(why) => {
+            fail(err, failure, why);
+            Input {
+                count: 0,
+                failed: true,
+            }
+        }
     }
 }
