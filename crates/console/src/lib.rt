@@ -4,6 +4,7 @@
 ghost use Rattle.std.specs.Prelude.{◌≡◌, ◌+◌, ◌≤◌, length};
 ghost use Rattle.file_sentences.specs.FileSentences.{longest};
 
+use std::env::{Env, FillError};
 use std::io;
 use std::io::{Cursor, Read, Write};
 
@@ -122,6 +123,26 @@ pub fn explain<E: Print>(err: &E, file: &[u8], number: u32, place: u32) {
     let mut line = [0u8; 256];
     let n = file_sentences::file_line(&mut line, file, number, place);
     write_sentence(err, &line, n);
+}
+
+// Whether the program has an argument of this number. Number 0 is its own name.
+pub fn is_given<R: Env>(rt: &R, i: usize) -> bool {
+    let mut word = [0u8; 1];
+    match rt.arg(i, &mut word) {
+        Ok(_) => true,
+        Err(FillError::TooLong) => true,
+        Err(FillError::NotPresent) => false,
+    }
+}
+
+// Puts an argument at the start of a buffer and says how long it is: 0 where it is missing or longer than the buffer.
+pub fn argument<R: Env>(rt: &R, i: usize, word: &mut [u8]) -> usize
+    ensures { result ≤ length word.new }
+{
+    match rt.arg(i, word) {
+        Ok(n) => n,
+        Err(_) => 0,
+    }
 }
 
 // Writes how a program is called to standard error.
