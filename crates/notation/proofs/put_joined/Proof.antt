@@ -6,30 +6,30 @@ use borrow.Author.Rules.{rules}
 use Rattle.notation.proofs.put_joined.Statement.{statement}
 use Rattle.notation.proofs.put_joined.Tie as tie
 
-put-role-requires : tie.Need-put-role-requires
+put-role-requires : tie.Need-put_role-sign_at-requires
 put-role-requires c κs = search rules
 
-slice-aggregate-put-bytes : tie.Need-slice-aggregate-put-bytes
+slice-aggregate-put-bytes : tie.Need-slice_bounds-put_bytes-end
 slice-aggregate-put-bytes c = search rules
 
-put-bytes-requires : tie.Need-put-bytes-requires
+put-bytes-requires : tie.Need-put_bytes-second_at-requires
 put-bytes-requires c κs = search rules
 
-put-role-requires-2 : tie.Need-put-role-requires-2
+put-role-requires-2 : tie.Need-put_role-requires
 put-role-requires-2 c κs = search rules
 
-same_length : tie.Need-same-length
-same_length c = c.before.before.put-role2.auto.0 ∙ c.before.before.before.before.before.before.put-bytes.auto.0 ∙ c.before.before.before.before.before.before.before.before.before.before.before.put-role.auto.0
+same_length : tie.Need-shape_of-out
+same_length c = search rules
 
 returns : tie.Need-returns
 returns c =
-    let e₁ = c.before.before.before.before.before.before.before.before.before.before.before.put-role.ensures in
-    let e₂ = c.before.before.before.before.before.before.put-bytes.ensures in
-    let e₃ = c.before.before.put-role2.ensures in
+    let e₁ = c.before.before.before.before.before.before.before.before.before.before.before.put_role-sign_at.ensures in
+    let e₂ = c.before.before.before.before.before.before.put_bytes-second_at.ensures in
+    let e₃ = c.before.before.put_role.ensures in
     wider (omega arith) (e₁ then e₂ then e₃)
 
-pub put-joined-spec : {M : Type 1} → statement M
-put-joined-spec =
+pub put_joined_spec : {M : Type 1} → statement M
+put_joined_spec =
     tie.close
     (tie.spec
     put-role-requires

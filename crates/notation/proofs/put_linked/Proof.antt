@@ -11,37 +11,37 @@ use Rattle.notation.proofs.put_linked.Tie as tie
 regrouped : (x y z : List ℕ) → (x ++ y) ++ (46 ∷ z) ≡ x ++ ((y ++ (46 ∷ [])) ++ z)
 regrouped x y z = append_assoc x y (46 ∷ z) ∙ ap (λ (l : List ℕ). x ++ l) (sym (append_assoc y (46 ∷ []) z))
 
-cast-put-field : tie.Need-overflow-cast-put-field
+cast-put-field : tie.Need-overflow_cast-role
 cast-put-field c = search rules
 
-put-field-requires : tie.Need-put-field-requires
+put-field-requires : tie.Need-put_field-name_at-requires
 put-field-requires c κs = search rules
 
-cast-put-field-2 : tie.Need-overflow-cast-put-field-2
+cast-put-field-2 : tie.Need-overflow_cast-role-2
 cast-put-field-2 c = search rules
 
-put-field-requires-2 : tie.Need-put-field-requires-2
+put-field-requires-2 : tie.Need-put_field-link_at-requires
 put-field-requires-2 c κs = search rules
 
-cast-put-decimal : tie.Need-overflow-cast-put-decimal
+cast-put-decimal : tie.Need-overflow_cast-name
 cast-put-decimal c = search rules
 
-put-decimal-requires : tie.Need-put-decimal-requires
+put-decimal-requires : tie.Need-put_decimal-requires
 put-decimal-requires c κs = search rules
 
-same_length : tie.Need-same-length
-same_length c = c.before.before.put-decimal.auto.0 ∙ c.before.before.before.before.before.before.before.put-field2.auto.0 ∙ c.before.before.before.before.before.before.before.before.before.before.before.before.put-field.auto.0
+same_length : tie.Need-shape_of-out
+same_length c = search rules
 
 returns : tie.Need-returns
 returns c =
     let a = c.before.before.before.before.before.before.before.before.before.before.before.before.before.before.before.before.args in
-    let e₁ = c.before.before.before.before.before.before.before.before.before.before.before.before.put-field.ensures in
-    let e₂ = c.before.before.before.before.before.before.before.put-field2.ensures in
-    let e₃ = c.before.before.put-decimal.ensures in
+    let e₁ = c.before.before.before.before.before.before.before.before.before.before.before.before.put_field-name_at.ensures in
+    let e₂ = c.before.before.before.before.before.before.before.put_field-link_at.ensures in
+    let e₃ = c.before.before.put_decimal.ensures in
     rw (regrouped (field a.role.issuer.0 46) (decimal a.role.name.0) (decimal a.name.0)) (e₁ then e₂ then e₃)
 
-pub put-linked-spec : {M : Type 1} → statement M
-put-linked-spec =
+pub put_linked_spec : {M : Type 1} → statement M
+put_linked_spec =
     tie.close
     (tie.spec
     cast-put-field
