@@ -25,10 +25,12 @@ use Rattle.intervals_bytes.specs.Interface.{bounds, pairs_in}
 -- ---- widths
 
 not-empty : {v : Period} (vs : List Period) → Apart vs → Mem v vs → v.from < v.until
+not-empty {v = v} [] a x'' = elim x'' [ ]
 not-empty {v} (w ∷ vs) a (head e) = let l = a.0 in omega (arith, ap (λ (x : Period). x.from) e, ap (λ (x : Period). x.until) e)
 not-empty (w ∷ vs) a (tail m) = not-empty vs a.2 m
 
 bounds-below : (limit : ℕ) (vs : List Period) → ((v : Period) → Mem v vs → (v.from < limit) × (v.until < limit)) → (x : ℕ) → Mem x (bounds vs) → x < limit
+bounds-below limit [] h x x4 = elim x4 [ ]
 bounds-below limit (v ∷ vs) h x (head e) = let k = h v (head refl) in omega arith
 bounds-below limit (v ∷ vs) h x (tail (head e)) = let k = h v (head refl) in omega arith
 bounds-below limit (v ∷ vs) h x (tail (tail m)) = bounds-below limit vs (λ w j. h w (tail j)) x m

@@ -11,8 +11,8 @@ use ends::Interval;
 
 // Into a list of 256 bytes; the reply is how many there are, or a refusal.
 pub fn intervals(bounds: &mut [u8], file: &[u8], withdrawals: &[u8], spans: u64) -> u64
-    ensures value { result ≡ word (λ n. n) (intervals_reply (file.now without (λ x. x.now) withdrawals.entry) spans bounds.old) }
-    ensures bounds_after { bounds.new ≡ intervals_bytes (file.now without (λ x. x.now) withdrawals.entry) spans bounds.old }
+    ensures value { result ≡ word (λ n. n) (intervals_reply (file.now without withdrawals.now) spans bounds.old) }
+    ensures bounds_after { bounds.new ≡ intervals_bytes (file.now without withdrawals.now) spans bounds.old }
 {
     let v = ends::intervals_of(file, withdrawals, spans);
     let number = number_for(v.number, bounds.len());
