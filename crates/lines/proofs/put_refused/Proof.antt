@@ -5,33 +5,29 @@ use borrow.Author.Rules.{rules}
 use Rattle.lines.proofs.put_refused.Statement.{statement}
 use Rattle.lines.proofs.put_refused.Tie as tie
 
-slice-aggregate-put-bytes : tie.Need-slice-aggregate-put-bytes
-slice-aggregate-put-bytes c = search rules
-
-put-bytes-requires : tie.Need-put-bytes-requires
+put-bytes-requires : tie.Need-put_bytes-number_at-requires
 put-bytes-requires c κs = search rules
 
-put-field-requires : tie.Need-put-field-requires
+put-field-requires : tie.Need-put_field-place_at-requires
 put-field-requires c κs = search rules
 
-put-field-requires-2 : tie.Need-put-field-requires-2
+put-field-requires-2 : tie.Need-put_field-requires
 put-field-requires-2 c κs = search rules
 
-same_length : tie.Need-same-length
-same_length c = c.before.before.put-field2.auto.0 ∙ c.before.before.before.before.before.before.put-field.auto.0 ∙ c.before.before.before.before.before.before.before.before.before.before.put-bytes.auto.0
+same_length : tie.Need-shape_of-out
+same_length c = search rules
 
 returns : tie.Need-returns
 returns c =
-    let e₁ = c.before.before.before.before.before.before.before.before.before.before.put-bytes.ensures in
-    let e₂ = c.before.before.before.before.before.before.put-field.ensures in
-    let e₃ = c.before.before.put-field2.ensures in
+    let e₁ = c.before.before.before.before.before.before.before.before.before.before.put_bytes-number_at.ensures in
+    let e₂ = c.before.before.before.before.before.before.put_field-place_at.ensures in
+    let e₃ = c.before.before.put_field.ensures in
     e₁ then e₂ then e₃
 
-pub put-refused-spec : {M : Type 1} → statement M
-put-refused-spec =
+pub put_refused_spec : {M : Type 1} → statement M
+put_refused_spec =
     tie.close
     (tie.spec
-    slice-aggregate-put-bytes
     put-bytes-requires
     put-field-requires
     put-field-requires-2
