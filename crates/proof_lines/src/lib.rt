@@ -8,7 +8,7 @@ ghost use Rattle.proof_lines.specs.StepLines.{membership_text, cited_by, from_te
 use file::{Body, Credential, Role};
 
 // The four words of a proof step.
-#[derive(Drop)]
+#[derive(Clone, Copy)]
 pub struct Step {
     pub credential: u32,
     pub first: u32,
