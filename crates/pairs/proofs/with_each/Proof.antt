@@ -3,29 +3,29 @@ use native.Mathlib.Omega.{arith}
 use Rattle.pairs.proofs.with_each.Statement.{statement}
 use Rattle.pairs.proofs.with_each.Tie as tie
 
-only-head-requires : tie.Need-only-head-requires
+only-head-requires : tie.Need-only_head-c-requires
 only-head-requires c κs = let p = c.requires.0 in ((c.args.codes.now, c.args.valid.now, p.listed), p.low)
 
-sub-with-head : tie.Need-overflow-sub-with-head
-sub-with-head c = omega (arith, c.before.before.before.before.before.if1.true)
+sub-with-head : tie.Need-overflow_sub-c
+sub-with-head c = omega (arith, c.before.before.before.before.before.if-c-ne0.true)
 
-with-head-requires : tie.Need-with-head-requires
+with-head-requires : tie.Need-with_head-requires
 with-head-requires c κs =
     let t = c.before.before.before.before.before in
     let s = t.before.before in
-    (s.requires.0, (s.requires.1, t.before.only-head.ensures s.args.codes.now s.args.valid.now s.requires.0.listed t.if1.true))
+    (s.requires.0, (s.requires.1, t.before.only_head-c.ensures s.args.codes.now s.args.valid.now s.requires.0.listed t.if-c-ne0.true))
 
-returns : tie.Need-returns
-returns c = c.with-head.ensures
+returns : tie.Need-returns-then-c-ne0
+returns c = c.with_head.ensures
 
-with-heads-requires : tie.Need-with-heads-requires
+with-heads-requires : tie.Need-with_heads-requires
 with-heads-requires c κs = c.before.before.before.before.before.before.before.requires
 
-returns-2 : tie.Need-returns-2
-returns-2 c = c.with-heads.ensures
+returns-2 : tie.Need-returns
+returns-2 c = c.with_heads.ensures
 
-pub with-each-spec : {M : Type 1} → statement M
-with-each-spec =
+pub with_each_spec : {M : Type 1} → statement M
+with_each_spec =
     tie.close
     (tie.spec
     only-head-requires
