@@ -6,7 +6,7 @@ ghost use Rattle.std.specs.Prelude.{◌≡◌, ◌+◌, ◌*◌, ◌≤◌, ◌<
 ghost use Rattle.meaning.specs.Lists.{any, below};
 ghost use Rattle.text.specs.Lines.{LinedIn};
 ghost use Rattle.file.specs.Format.{four};
-ghost use Rattle.withdrawals.specs.List.{serial_at, repeated as List·repeated};
+ghost use Rattle.withdrawals.specs.List.{serial_at, repeated as list_repeated};
 ghost use Rattle.sentences.specs.Filling.{sentence};
 ghost use Rattle.list_sentences.specs.ListWords.{list_words};
 ghost use Rattle.list_sentences.specs.ListSentences.{shape_text, on_credential, first_wrong, serial_text, list_text, list_sentence};
@@ -98,7 +98,7 @@ fn serial_at(list: &[u8], k: u32) -> u32
 // Whether a withdrawal before k has its serial x.
 fn repeated(list: &[u8], k: u32, x: u32) -> bool
     requires { (k ≤ 256) × (x ≡ serial_at list.now k) }
-    ensures { result ≡ List·repeated list.now k }
+    ensures { result ≡ list_repeated list.now k }
 {
     among(list, 2, 4, k, x)
 }

@@ -17,49 +17,49 @@ use Rattle.list_sentences.proofs.among.Tie as tie
 abbrev is : List ℕ → ℕ → ℕ → ℕ → ℕ → Bool
 is bytes from step x j = eqb (four bytes (from + step * j)) x
 
-abbrev invariant-loop : tie.invariant-loop
+abbrev invariant-loop : tie.invariant-loop-j
 invariant-loop bytes from step n x p₀ j₀ p j = (j ≤ n) × (p ≡ from + step * j) × (p ≤ 14 + 12 * j) × ((i : ℕ) → i < j → is bytes from step x i ≡ false)
 
-abbrev decreases-loop : tie.decreases-loop
+abbrev decreases-loop : tie.decreases-loop-j
 decreases-loop bytes from step n x p₀ j₀ p j = n - j
 
-loop-holds : tie.Need-loop-init invariant-loop decreases-loop
+loop-holds : tie.Need-loop-j-init invariant-loop decreases-loop
 loop-holds c = (omega arith, omega arith, omega arith, λ i l. absurd (omega arith))
 
-four-at-requires : tie.Need-four-at-requires invariant-loop decreases-loop
+four-at-requires : tie.Need-four_at-requires invariant-loop decreases-loop
 four-at-requires c κs = omega arith
 
-returns : tie.Need-returns invariant-loop decreases-loop
+returns : tie.Need-returns-then-four_at-x invariant-loop decreases-loop
 returns c =
     let a = c.before.before.before.before.before.args in
-    let l = c.before.before.before.loop in
-    let e = sym (c.before.four-at.ensures ∙ ap (four a.bytes.now) l.invariant.1) ∙ c.if1.true in
+    let l = c.before.before.before.loop-j in
+    let e = sym (c.before.four_at.ensures ∙ ap (four a.bytes.now) l.invariant.1) ∙ c.if-four_at-x.true in
     sym (some_in (is a.bytes.now a.from a.step a.x) a.n l.j (omega arith) (eq-eqb _ _ e))
 
-add-p : tie.Need-overflow-add-p invariant-loop decreases-loop
+add-p : tie.Need-overflow_add-p invariant-loop decreases-loop
 add-p c = omega arith
 
-add-j : tie.Need-overflow-add-j invariant-loop decreases-loop
+add-j : tie.Need-overflow_add-j invariant-loop decreases-loop
 add-j c = omega arith
 
-loop-less : tie.Need-loop-smaller invariant-loop decreases-loop
+loop-less : tie.Need-loop-j-smaller invariant-loop decreases-loop
 loop-less c = omega arith
 
-loop-again : tie.Need-loop-preserved invariant-loop decreases-loop
+loop-again : tie.Need-loop-j-preserved invariant-loop decreases-loop
 loop-again c =
     let a = c.before.before.before.before.before.args in
-    let l = c.before.before.before.loop in
+    let l = c.before.before.before.loop-j in
     let s = mul-suc a.step l.j in
-    let e = c.before.four-at.ensures ∙ ap (four a.bytes.now) l.invariant.1 in
-    (omega arith, omega arith, omega arith, below_more _ _ l.invariant.3 (ne_eqb _ _ (λ q. c.if1.false (e ∙ q))))
+    let e = c.before.four_at.ensures ∙ ap (four a.bytes.now) l.invariant.1 in
+    (omega arith, omega arith, omega arith, below_more _ _ l.invariant.3 (ne_eqb _ _ (λ q. c.if-four_at-x.false (e ∙ q))))
 
-returns-2 : tie.Need-returns-2 invariant-loop decreases-loop
+returns-2 : tie.Need-returns invariant-loop decreases-loop
 returns-2 c =
     let a = c.before.before.before.args in
-    sym (none_in (is a.bytes.now a.from a.step a.x) a.n (λ i m. c.before.loop.invariant.3 i (omega arith)))
+    sym (none_in (is a.bytes.now a.from a.step a.x) a.n (λ i m. c.before.loop-j.invariant.3 i (omega arith)))
 
-pub among-spec : {M : Type 1} → statement M
-among-spec =
+pub among_spec : {M : Type 1} → statement M
+among_spec =
     tie.close
     (tie.spec
     invariant-loop

@@ -16,5 +16,5 @@ returns c =
     let a = c.before.before.args in
     c.among.ensures ∙ ap (λ (y : ℕ). any (λ j. eqb (serial_at a.list.now j) y) (below a.k)) c.before.before.requires.1
 
-pub repeated-spec : {M : Type 1} → statement M
-repeated-spec = tie.close (tie.spec among-requires returns)
+pub repeated_spec : {M : Type 1} → statement M
+repeated_spec = tie.close (tie.spec among-requires returns)
