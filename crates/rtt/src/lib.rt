@@ -1,4 +1,4 @@
-// The calls for C: lists cross as bytes, lowest first, and the reply is one 64-bit number.
+// The calls on bytes: lists cross as bytes, lowest first, and the reply is one 64-bit number. The crate rtt_c exports them to C.
 #![tactic(auto)]
 
 ghost use Rattle.std.specs.Prelude.{◌≡◌};
@@ -16,16 +16,15 @@ ghost use Rattle.withdrawals.specs.Source.{◌without◌};
 use carrying::Carried;
 
 // Completes the table.
-#[unsafe(no_mangle)]
-pub extern "C" fn rtt_complete(
+pub fn rtt_complete(
     file: &[u8],
     withdrawals: &[u8],
     roles: &mut [u8],
     sets: &mut [u8],
     spans: &mut [u8],
 ) -> u64
-    ensures value { result ≡ word (λ n. n) (complete_bytes (file.now without (λ x. x.now) withdrawals.entry) (lent roles.old sets.old spans.old)).reply }
-    ensures spans_after { lent roles.new sets.new spans.new ≡ (complete_bytes (file.now without (λ x. x.now) withdrawals.entry) (lent roles.old sets.old spans.old)).lists }
+    ensures value { result ≡ word (λ n. n) (complete_bytes (file.now without withdrawals.now) (lent roles.old sets.old spans.old)).reply }
+    ensures spans_after { lent roles.new sets.new spans.new ≡ (complete_bytes (file.now without withdrawals.now) (lent roles.old sets.old spans.old)).lists }
 {
     if !complete_bytes::table_fits(roles.len(), sets.len(), spans.len()) {
         return replies::refuse(file, withdrawals);
@@ -35,8 +34,7 @@ pub extern "C" fn rtt_complete(
 }
 
 // Hands out a proof of the membership at the minute.
-#[unsafe(no_mangle)]
-pub extern "C" fn rtt_query(
+pub fn rtt_query(
     file: &[u8],
     withdrawals: &[u8],
     role: u32,
@@ -47,7 +45,7 @@ pub extern "C" fn rtt_query(
     second: &mut [u8],
     sets: &mut [u8],
 ) -> u64
-    ensures { QueriedBytes (file.now without (λ x. x.now) withdrawals.entry) (request role set minute) (step_lists credential.old first.old second.old sets.old) result (step_lists credential.new first.new second.new sets.new) }
+    ensures { QueriedBytes (file.now without withdrawals.now) (request role set minute) (step_lists credential.old first.old second.old sets.old) result (step_lists credential.new first.new second.new sets.new) }
 {
     if !replies::steps_fit(credential.len(), first.len(), second.len(), sets.len()) {
         return replies::refuse(file, withdrawals);
@@ -68,8 +66,7 @@ pub extern "C" fn rtt_query(
 }
 
 // Checks the first `steps` steps as a proof of the membership at the minute.
-#[unsafe(no_mangle)]
-pub extern "C" fn rtt_check(
+pub fn rtt_check(
     file: &[u8],
     withdrawals: &[u8],
     role: u32,
@@ -81,7 +78,7 @@ pub extern "C" fn rtt_check(
     sets: &[u8],
     steps: u64,
 ) -> u64
-    ensures { result ≡ word (λ n. n) (check_reply (file.now without (λ x. x.now) withdrawals.entry) (request role set minute) (step_lists credential.now first.now second.now sets.now) steps) }
+    ensures { result ≡ word (λ n. n) (check_reply (file.now without withdrawals.now) (request role set minute) (step_lists credential.now first.now second.now sets.now) steps) }
 {
     if !replies::steps_fit(credential.len(), first.len(), second.len(), sets.len()) {
         return replies::refuse(file, withdrawals);
@@ -103,31 +100,23 @@ pub extern "C" fn rtt_check(
 }
 
 // Writes the ends of the file's periods after its withdrawals into 256 bytes.
-#[unsafe(no_mangle)]
-pub extern "C" fn rtt_ends(file: &[u8], withdrawals: &[u8], ends: &mut [u8]) -> u64
-    ensures value { result ≡ word (λ n. n) (ends_reply (file.now without (λ x. x.now) withdrawals.entry) ends.old) }
-    ensures ends_after { ends.new ≡ ends_bytes (file.now without (λ x. x.now) withdrawals.entry) ends.old }
+pub fn rtt_ends(file: &[u8], withdrawals: &[u8], ends: &mut [u8]) -> u64
+    ensures value { result ≡ word (λ n. n) (ends_reply (file.now without withdrawals.now) ends.old) }
+    ensures ends_after { ends.new ≡ ends_bytes (file.now without withdrawals.now) ends.old }
 {
     ends_bytes::ends(ends, file, withdrawals)
 }
 
 // Writes the intervals of a span number, from and to in turn, into 256 bytes.
-#[unsafe(no_mangle)]
-pub extern "C" fn rtt_intervals(
-    file: &[u8],
-    withdrawals: &[u8],
-    spans: u64,
-    bounds: &mut [u8],
-) -> u64
-    ensures value { result ≡ word (λ n. n) (intervals_reply (file.now without (λ x. x.now) withdrawals.entry) spans bounds.old) }
-    ensures bounds_after { bounds.new ≡ intervals_bytes (file.now without (λ x. x.now) withdrawals.entry) spans bounds.old }
+pub fn rtt_intervals(file: &[u8], withdrawals: &[u8], spans: u64, bounds: &mut [u8]) -> u64
+    ensures value { result ≡ word (λ n. n) (intervals_reply (file.now without withdrawals.now) spans bounds.old) }
+    ensures bounds_after { bounds.new ≡ intervals_bytes (file.now without withdrawals.now) spans bounds.old }
 {
     intervals_bytes::intervals(bounds, file, withdrawals, spans)
 }
 
 // Writes the new file of an old one; the reply is the count of its credentials.
-#[unsafe(no_mangle)]
-pub extern "C" fn rtt_forward(old: &[u8], file: &mut [u8]) -> u64
+pub fn rtt_forward(old: &[u8], file: &mut [u8]) -> u64
     ensures value { result ≡ word (λ n. n) (going_forward old.now file.old) }
     ensures file_after { file.new ≡ forward_left old.now file.old }
 {
@@ -136,8 +125,7 @@ pub extern "C" fn rtt_forward(old: &[u8], file: &mut [u8]) -> u64
 }
 
 // Writes the old file of a new one; the reply is the count of its credentials.
-#[unsafe(no_mangle)]
-pub extern "C" fn rtt_back(file: &[u8], old: &mut [u8]) -> u64
+pub fn rtt_back(file: &[u8], old: &mut [u8]) -> u64
     ensures value { result ≡ word (λ n. n) (going_back file.now old.old) }
     ensures after { old.new ≡ back_left file.now old.old }
 {
