@@ -12,7 +12,7 @@ ghost use Rattle.giving.specs.Giving.{LastDone, FiresBoth, FromEntry, Gave};
 use premises::Turn;
 
 // Entry e is to give. `last` says that no entry after it is done yet; false is always right. A new entry past the limit is not added.
-#[derive(Drop)]
+#[derive(Clone, Copy)]
 pub struct Visit {
     pub limit: usize,
     pub e: usize,
