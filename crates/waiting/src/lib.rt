@@ -6,7 +6,7 @@ ghost use Rattle.waiting.specs.Pairs.{pair_set, pair_spans, pair_at};
 ghost use Rattle.waiting.specs.Waiting.{RoleLists, Waiting, Placed, United, Gathers, Settled};
 
 // A set in some spans that is paired by a kind.
-#[derive(Drop)]
+#[derive(Clone, Copy)]
 pub struct Offer {
     pub kind: u32,
     pub set: u64,
@@ -14,7 +14,7 @@ pub struct Offer {
 }
 
 // What an entry gives: a set, its spans, and the entry's word.
-#[derive(Drop)]
+#[derive(Clone, Copy)]
 pub struct Pair {
     pub set: u64,
     pub spans: u64,
@@ -22,14 +22,14 @@ pub struct Pair {
 }
 
 // How many sets wait, and where the walk goes on.
-#[derive(Drop)]
+#[derive(Clone, Copy)]
 pub struct Gathered {
     pub count: usize,
     pub at: usize,
 }
 
 // How many sets wait, and the place used last.
-#[derive(Drop)]
+#[derive(Clone, Copy)]
 struct Queue {
     count: usize,
     last: usize,
