@@ -6,7 +6,7 @@ ghost use Rattle.text.specs.Lines.{Put, decimal, field};
 ghost use Rattle.text.specs.Numbers.{digit, number_in};
 
 // The number that bytes say in decimal, if they do.
-#[derive(Drop)]
+#[derive(Clone, Copy)]
 pub enum Parsed {
     Number(u32),
     Nothing,
