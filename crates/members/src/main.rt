@@ -6,13 +6,27 @@ use completing::Completed;
 
 // Each function that prints says whether it could.
 
-fn print_interval(role: u32, set: u32, from: u32, to: u32) -> bool {
+fn print_interval<O: Print, E: Print>(
+    out: &O,
+    err: &E,
+    role: u32,
+    set: u32,
+    from: u32,
+    to: u32,
+) -> bool {
     let mut line = [0u8; 128];
     let n = lines::interval_line(&mut line, role, set, from, to);
-    console::write_line(&line, n)
+    console::write_line(out, err, &line, n)
 }
 
-fn print_membership(file: &[u8], role: u32, set: u32, spans: u64) -> bool {
+fn print_membership<O: Print, E: Print>(
+    out: &O,
+    err: &E,
+    file: &[u8],
+    role: u32,
+    set: u32,
+    spans: u64,
+) -> bool {
     let none = withdrawals::none();
     let v = ends::intervals_of(file, &none, spans);
     let list = v.intervals;
@@ -23,7 +37,7 @@ fn print_membership(file: &[u8], role: u32, set: u32, spans: u64) -> bool {
             return true;
         }
         let x = list[i];
-        if !print_interval(role, set, x.from, x.to) {
+        if !print_interval(out, err, role, set, x.from, x.to) {
             return false;
         }
         i += 1;
@@ -31,7 +45,9 @@ fn print_membership(file: &[u8], role: u32, set: u32, spans: u64) -> bool {
     true
 }
 
-fn print_table(
+fn print_table<O: Print, E: Print>(
+    out: &O,
+    err: &E,
     file: &[u8],
     roles: &[u32; 1024],
     sets: &[u32; 1024],
@@ -43,14 +59,14 @@ fn print_table(
         if count <= i {
             return;
         }
-        if !print_membership(file, roles[i], sets[i], spans[i]) {
+        if !print_membership(out, err, file, roles[i], sets[i], spans[i]) {
             return;
         }
         i += 1;
     }
 }
 
-fn print_members(file: &[u8]) {
+fn print_members<O: Print, E: Print>(out: &O, err: &E, file: &[u8]) {
     let mut roles = console::numbers32();
     let mut sets = console::numbers32();
     let mut spans = console::numbers64();
@@ -58,29 +74,32 @@ fn print_members(file: &[u8]) {
     let answer = completing::complete(file, &none, &mut roles, &mut sets, &mut spans);
     match answer {
         Completed::Memberships(count) => {
-            if console::print_number(count) {
-                print_table(file, &roles, &sets, &spans, count as usize);
+            if console::print_number(out, err, count) {
+                print_table(out, err, file, &roles, &sets, &spans, count as usize);
             }
         }
         Completed::Refused { number, place } => {
-            console::print_refusal(number, place);
-            console::explain(file, number, place);
+            console::print_refusal(out, err, number, place);
+            console::explain(err, file, number, place);
         }
     }
 }
 
-fn main() {
-    if 1 < os::arg_count() {
+fn main(rt: HostRuntime) {
+    let out = rt.stdout();
+    let err = rt.stderr();
+    if console::is_given(&rt, 1) {
         console::usage(
+            &err,
             b"usage: rtt-members < FILE\nFILE is a credentials file. Prints how many memberships it has, then each interval: issuer, name, set, from, to.\n",
         );
         return;
     }
     let mut buffer = console::room();
-    let input = console::read(&mut buffer);
+    let input = console::read(&mut rt.stdin(), &err, &mut buffer);
     if input.failed {
         return;
     }
     let n = input.count;
-    print_members(&buffer[..n]);
+    print_members(&out, &err, &buffer[..n]);
 }
