@@ -2,15 +2,15 @@
 // means on standard error.
 #![tactic(auto)]
 
-fn print_ends(file: &[u8]) {
+fn print_ends<O: Print, E: Print>(out: &O, err: &E, file: &[u8]) {
     let none = withdrawals::none();
     let e = ends::ends_of(file, &none);
     if e.number != 0 {
-        console::print_refusal(e.number, e.place);
-        console::explain(file, e.number, e.place);
+        console::print_refusal(out, err, e.number, e.place);
+        console::explain(err, file, e.number, e.place);
         return;
     }
-    if !console::print_number(e.count) {
+    if !console::print_number(out, err, e.count) {
         return;
     }
     let list = e.ends;
@@ -20,25 +20,28 @@ fn print_ends(file: &[u8]) {
         if count <= i {
             return;
         }
-        if !console::print_number(list[i]) {
+        if !console::print_number(out, err, list[i]) {
             return;
         }
         i += 1;
     }
 }
 
-fn main() {
-    if 1 < os::arg_count() {
+fn main(rt: HostRuntime) {
+    let out = rt.stdout();
+    let err = rt.stderr();
+    if console::is_given(&rt, 1) {
         console::usage(
+            &err,
             b"usage: rtt-ends < FILE\nFILE is a credentials file. Prints how many ends its periods have, then each.\n",
         );
         return;
     }
     let mut buffer = console::room();
-    let input = console::read(&mut buffer);
+    let input = console::read(&mut rt.stdin(), &err, &mut buffer);
     if input.failed {
         return;
     }
     let n = input.count;
-    print_ends(&buffer[..n]);
+    print_ends(&out, &err, &buffer[..n]);
 }
