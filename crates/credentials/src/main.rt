@@ -5,54 +5,59 @@
 use file::Found;
 use walker::Entry;
 
-fn print_credential(position: u32, c: file::Credential) -> bool {
+fn print_credential<O: Print, E: Print>(
+    out: &O,
+    err: &E,
+    position: u32,
+    c: file::Credential,
+) -> bool {
     let mut line = [0u8; 128];
     let n = notation::credential_line(&mut line, position, c);
-    console::write_line(&line, n)
+    console::write_line(out, err, &line, n)
 }
 
 // Writes the credential at a position to standard error, if it can be read.
-fn list_credential(file: &[u8], position: u32) {
+fn list_credential<E: Print>(err: &E, file: &[u8], position: u32) {
     match reader::read_credential(file, position as usize) {
         Found::Credential(c) => {
             let mut line = [0u8; 128];
             let n = notation::credential_line(&mut line, position, c);
-            console::write_error(&line, n);
+            console::write_error(err, &line, n);
         }
         Found::End => {}
     }
 }
 
 // A file has at most 256 credentials.
-fn list_before(file: &[u8], place: u32) {
+fn list_before<E: Print>(err: &E, file: &[u8], place: u32) {
     let mut i = 0;
     while i < 256 {
         if place <= i {
             return;
         }
-        list_credential(file, i);
+        list_credential(err, file, i);
         i += 1;
     }
 }
 
-fn print_refused(file: &[u8], number: u32, place: u32) {
-    console::print_refusal(number, place);
-    list_before(file, place);
-    console::explain(file, number, place);
+fn print_refused<O: Print, E: Print>(out: &O, err: &E, file: &[u8], number: u32, place: u32) {
+    console::print_refusal(out, err, number, place);
+    list_before(err, file, place);
+    console::explain(err, file, number, place);
 }
 
 // Prints what stands at a position of a file that was not refused, and says whether there may be more.
-fn print_entry(file: &[u8], position: u32) -> bool {
+fn print_entry<O: Print, E: Print>(out: &O, err: &E, file: &[u8], position: u32) -> bool {
     match reader::read_credential(file, position as usize) {
-        Found::Credential(c) => print_credential(position, c),
+        Found::Credential(c) => print_credential(out, err, position, c),
         Found::End => false,
     }
 }
 
-fn print_credentials(file: &[u8]) {
+fn print_credentials<O: Print, E: Print>(out: &O, err: &E, file: &[u8]) {
     let mut i = 0;
     while i < 256 {
-        if !print_entry(file, i) {
+        if !print_entry(out, err, file, i) {
             return;
         }
         i += 1;
@@ -60,26 +65,29 @@ fn print_credentials(file: &[u8]) {
 }
 
 // The walker judges the file, once; after that its credentials are read.
-fn print_file(file: &[u8]) {
+fn print_file<O: Print, E: Print>(out: &O, err: &E, file: &[u8]) {
     match walker::entry_at(file, 0) {
-        Entry::Credential(_) => print_credentials(file),
+        Entry::Credential(_) => print_credentials(out, err, file),
         Entry::End => {}
-        Entry::Refused { number, place } => print_refused(file, number, place),
+        Entry::Refused { number, place } => print_refused(out, err, file, number, place),
     }
 }
 
-fn main() {
-    if 1 < os::arg_count() {
+fn main(rt: HostRuntime) {
+    let out = rt.stdout();
+    let err = rt.stderr();
+    if console::is_given(&rt, 1) {
         console::usage(
+            &err,
             b"usage: rtt-credentials < FILE\nFILE is a credentials file. Prints each credential: position, #serial, head, body, from..to.\n",
         );
         return;
     }
     let mut buffer = console::room();
-    let input = console::read(&mut buffer);
+    let input = console::read(&mut rt.stdin(), &err, &mut buffer);
     if input.failed {
         return;
     }
     let n = input.count;
-    print_file(&buffer[..n]);
+    print_file(&out, &err, &buffer[..n]);
 }
