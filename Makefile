@@ -3,7 +3,7 @@
 # make uninstall PREFIX=/usr    removes what was installed
 # make test                     runs all the tests
 # make installcheck             tests an install into an empty prefix
-# make clean                    removes what was built
+# make clean                    removes what was built, and what rt keeps of its proofs in the crates' out/
 
 PREFIX = /usr/local
 BINDIR = $(PREFIX)/bin
@@ -13,26 +13,28 @@ PKGCONFIGDIR = $(LIBDIR)/pkgconfig
 MANDIR = $(PREFIX)/share/man
 
 version := $(shell sed -n 's/^.define RTT_VERSION "\(.*\)"/\1/p' include/rtt.h)
-library := target/staticlib/librtt.a
-programs := target/bin/members target/bin/credentials target/bin/proof target/bin/ends_list target/bin/carry
+library := out/librtt.a
+programs := $(foreach p,members credentials proof ends_list carry,crates/$p/out/$p)
 installed := rtt-members rtt-credentials rtt-proof rtt-ends rtt-carry
 pages1 := $(installed:%=%.1)
 pages3 := rtt.3 rtt_complete.3 rtt_query.3 rtt_check.3 rtt_ends.3 rtt_intervals.3 rtt_forward.3 rtt_back.3
 pages5 := rtt.5
-sources := crates.txt $(shell find crates -name '*.rt' -o -name '*.antt')
+sources := crates.txt $(shell find crates -name out -prune -o -name '*.rt' -print -o -name '*.antt' -print)
 
 .PHONY: all install uninstall test installcheck clean
-# Two runs of rt would write to target/ at the same time.
+# A run of rt takes the processors and the memory that are free.
 .NOTPARALLEL:
 
 all: $(library) $(programs)
 
 $(library): $(sources)
-	rt staticlib rtt
-	touch $@
+	cd crates/rtt_c && rt lib
+	mkdir -p out
+	cp crates/rtt_c/out/librtt_c.a $@
 
-$(programs): target/bin/%: $(sources)
-	rt check $*
+# rt builds a program only to run it: on the input and the arguments that the crate has.
+$(programs): $(sources)
+	cd crates/$(@F) && rt run -- $$(cat args 2>/dev/null) <stdin >/dev/null
 	touch $@
 
 install: all
@@ -60,4 +62,4 @@ installcheck: all
 	packaging/run
 
 clean:
-	rm -rf target compare/target
+	rm -rf out crates/*/out compare/target

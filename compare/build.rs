@@ -1,5 +1,5 @@
 //! Links the library if its archive is there, and says which of its functions it has.
-//! RTT_LIBRARY names the archive; otherwise it is ../target/staticlib/librtt.a.
+//! RTT_LIBRARY names the archive; otherwise it is ../out/librtt.a.
 
 use std::path::{Path, PathBuf};
 
@@ -7,7 +7,7 @@ const FUNCTIONS: [&str; 7] = ["rtt_complete", "rtt_query", "rtt_check", "rtt_end
 
 fn main() {
     let named = std::env::var("RTT_LIBRARY").map(PathBuf::from);
-    let path = named.unwrap_or_else(|_| Path::new(&std::env::var("CARGO_MANIFEST_DIR").unwrap()).join("../target/staticlib/librtt.a"));
+    let path = named.unwrap_or_else(|_| Path::new(&std::env::var("CARGO_MANIFEST_DIR").unwrap()).join("../out/librtt.a"));
     println!("cargo:rerun-if-env-changed=RTT_LIBRARY");
     println!("cargo:rerun-if-changed={}", path.display());
     for function in FUNCTIONS {

@@ -4,7 +4,7 @@
    caller lends, and replies with one 64-bit number. All but rtt_forward and rtt_back take a withdrawal list right after
    the file: RTT_NO_WITHDRAWALS, where nothing is withdrawn. What a call replies and every byte that it leaves are
    proved, for every input that keeps to "What the caller owes" below, against the definitions that the contracts in
-   crates/rtt cite. The inline functions after the calls are plain C, and tested; rtt_may_release, the last of them, is
+   crates/rtt_c cite. The inline functions after the calls are plain C, and tested; rtt_may_release, the last of them, is
    all that a release needs.
 
    Lists
