@@ -4,7 +4,7 @@
 ghost use Rattle.std.specs.Prelude.{◌≡◌, [], ◌+◌, ◌≤◌, ◌<◌, length};
 ghost use Rattle.text.specs.Lines.{Put};
 ghost use Rattle.text.specs.Numbers.{number_in};
-ghost use Rattle.sets.specs.Sets.{has as Sets·has, set_text, entity_text, with_entity, with_list, set_in};
+ghost use Rattle.sets.specs.Sets.{has as sets_has, set_text, entity_text, with_entity, with_list, set_in};
 
 use text::Parsed;
 
@@ -58,7 +58,7 @@ fn put_entity(out: &mut [u8], at: usize, later: bool, set: u32, e: u32) -> usize
 
 fn has(set: u32, e: u32) -> bool
     requires { e < 32 }
-    ensures { result ≡ Sets·has set e }
+    ensures { result ≡ sets_has set e }
 {
     (set >> e) % 2 == 1
 }

@@ -11,40 +11,40 @@ use Rattle.sets.proofs.put_entity.Tie as tie
 has-requires : tie.Need-has-requires
 has-requires c κs = search rules
 
-returns : tie.Need-returns
-returns c = rw (sym c.before.has.ensures ∙ not-true _ c.if1.true) nothing
+returns : tie.Need-returns-then-not-has
+returns c = rw (sym c.before.has.ensures ∙ not-true _ c.if-not-has.true-raw) nothing
 
-put-decimal-requires : tie.Need-put-decimal-requires
+put-decimal-requires : tie.Need-put_decimal-requires
 put-decimal-requires c κs = search rules
 
-same_length : tie.Need-same-length
-same_length c = c.before.before.put-decimal.auto.0
+same_length : tie.Need-shape_of-out-then-not-later
+same_length c = search rules
 
-returns-2 : tie.Need-returns-2
+returns-2 : tie.Need-returns-then-not-later
 returns-2 c =
     let a = c.before.before.before.before.before.before.before.before.args in
-    let h = sym c.before.before.before.before.before.before.has.ensures ∙ not-false _ c.before.before.before.before.before.if1.false in
-    let p = sized {n = 3} (omega (arith, length_two a.e (omega arith))) c.before.before.put-decimal.ensures in
-    rw (h, not-true a.later c.before.before.before.before.if2.true) p
+    let h = sym c.before.before.before.before.before.before.has.ensures ∙ not-false _ c.before.before.before.before.before.if-not-has.false-raw in
+    let p = sized {n = 3} (omega (arith, length_two a.e (omega arith))) c.before.before.put_decimal.ensures in
+    rw (h, not-true a.later c.before.before.before.before.if-not-later.true-raw) p
 
-put-byte-requires : tie.Need-put-byte-requires
+put-byte-requires : tie.Need-put_byte-next-requires
 put-byte-requires c κs = search rules
 
-put-decimal-requires-2 : tie.Need-put-decimal-requires-2
+put-decimal-requires-2 : tie.Need-put_decimal-requires-2
 put-decimal-requires-2 c κs = search rules
 
-same-length-2 : tie.Need-same-length-2
-same-length-2 c = c.before.before.put-decimal2.auto.0 ∙ c.before.before.before.before.before.before.put_byte.auto.0
+same-length-2 : tie.Need-shape_of-out
+same-length-2 c = search rules
 
-returns-3 : tie.Need-returns-3
+returns-3 : tie.Need-returns
 returns-3 c =
     let a = c.before.before.before.before.before.before.before.before.before.before.before.before.args in
-    let h = sym c.before.before.before.before.before.before.before.before.before.before.has.ensures ∙ not-false _ c.before.before.before.before.before.before.before.before.before.if1.false in
-    let p = sized {n = 3} (omega (arith, length_two a.e (omega arith))) (c.before.before.before.before.before.before.put_byte.ensures then c.before.before.put-decimal2.ensures) in
-    rw (h, not-false a.later c.before.before.before.before.before.before.before.before.if2.false) p
+    let h = sym c.before.before.before.before.before.before.before.before.before.before.has.ensures ∙ not-false _ c.before.before.before.before.before.before.before.before.before.if-not-has.false-raw in
+    let p = sized {n = 3} (omega (arith, length_two a.e (omega arith))) (c.before.before.before.before.before.before.put_byte-next.ensures then c.before.before.put_decimal-2.ensures) in
+    rw (h, not-false a.later c.before.before.before.before.before.before.before.before.if-not-later.false-raw) p
 
-pub put-entity-spec : {M : Type 1} → statement M
-put-entity-spec =
+pub put_entity_spec : {M : Type 1} → statement M
+put_entity_spec =
     tie.close
     (tie.spec
     has-requires
