@@ -3,16 +3,19 @@
 // written as {1,3} or as its number. A fifth argument names a file with a withdrawal list; without it nothing is withdrawn.
 #![tactic(auto)]
 
-ghost use Rattle.std.specs.Prelude.{◌≡◌, cond, ◌&&◌, ◌+◌, ◌*◌, ltb, length};
-ghost use Rattle.io.specs.Counts.{IsPrefixLen};
+ghost use Rattle.std.specs.Prelude.{◌≡◌, cond, ◌&&◌, ◌+◌, ◌*◌, ◌≤◌, ltb, length};
 
 use console::Input;
 use file::{Entity, Found, RoleName};
 use proof_lines::Step;
 use querying::Answer;
+use std::env::Env;
+use std::io::Read;
+use std::rt::Files;
+use std::{fs, io};
 use text::Parsed;
 
-#[derive(Drop)]
+#[derive(Clone, Copy)]
 struct Query {
     issuer: u32,
     name: u32,
@@ -20,25 +23,27 @@ struct Query {
     minute: u32,
 }
 
-#[derive(Drop)]
+#[derive(Clone, Copy)]
 enum Request {
     Query(Query),
     Unclear,
 }
 
 // Prints a step, and says whether it could. Every step of a proof names a credential of the file.
-fn print_step(file: &[u8], number: u32, s: Step) -> bool {
+fn print_step<O: Print, E: Print>(out: &O, err: &E, file: &[u8], number: u32, s: Step) -> bool {
     match reader::read_credential(file, s.credential as usize) {
         Found::Credential(c) => {
             let mut line = [0u8; 128];
             let n = proof_lines::step_line(&mut line, number, s, c);
-            console::write_line(&line, n)
+            console::write_line(out, err, &line, n)
         }
         Found::End => true,
     }
 }
 
-fn print_steps(
+fn print_steps<O: Print, E: Print>(
+    out: &O,
+    err: &E,
     file: &[u8],
     credential: &[u32; 1024],
     first: &[u32; 1024],
@@ -58,7 +63,7 @@ fn print_steps(
             second: second[i],
             set: sets[i],
         };
-        if !print_step(file, i as u32, s) {
+        if !print_step(out, err, file, i as u32, s) {
             return;
         }
         i += 1;
@@ -67,29 +72,29 @@ fn print_steps(
 
 // Says to standard error what a refusal of a query means: 1 to 8 and 17 are the file's, 20 and 21 the withdrawal list's, 10 to 13 the request's; 9 is not
 // given here.
-fn explain(file: &[u8], list: &[u8], q: Query, number: u32, place: u32) {
+fn explain<E: Print>(err: &E, file: &[u8], list: &[u8], q: Query, number: u32, place: u32) {
     if (number < 10) | (number == 17) {
-        console::explain(file, number, place);
+        console::explain(err, file, number, place);
         return;
     }
     if 20 <= number {
-        explain_list(file, list, number);
+        explain_list(err, file, list, number);
         return;
     }
     let mut line = [0u8; 256];
     let n = request_sentences::request_line(
         &mut line, file, q.issuer, q.name, q.set, q.minute, number,
     );
-    console::write_sentence(&line, n);
+    console::write_sentence(err, &line, n);
 }
 
-fn explain_list(file: &[u8], list: &[u8], number: u32) {
+fn explain_list<E: Print>(err: &E, file: &[u8], list: &[u8], number: u32) {
     let mut line = [0u8; 256];
     let n = list_sentences::list_line(&mut line, file, list, number);
-    console::write_sentence(&line, n);
+    console::write_sentence(err, &line, n);
 }
 
-fn print_proof(file: &[u8], list: &[u8], q: Query) {
+fn print_proof<O: Print, E: Print>(out: &O, err: &E, file: &[u8], list: &[u8], q: Query) {
     let mut credential = console::numbers32();
     let mut first = console::numbers32();
     let mut second = console::numbers32();
@@ -107,13 +112,13 @@ fn print_proof(file: &[u8], list: &[u8], q: Query) {
     );
     match answer {
         Answer::Proof { steps, level } => {
-            if console::print_pair(steps, level) {
-                print_steps(file, &credential, &first, &second, &sets, steps);
+            if console::print_pair(out, err, steps, level) {
+                print_steps(out, err, file, &credential, &first, &second, &sets, steps);
             }
         }
         Answer::Refused { number, place } => {
-            console::print_refusal(number, place);
-            explain(file, list, q, number, place);
+            console::print_refusal(out, err, number, place);
+            explain(err, file, list, q, number, place);
         }
     }
 }
@@ -132,36 +137,36 @@ fn role_asked(issuer: u32, name: u32) -> u32
 }
 
 // An argument that is missing or longer than the buffer is empty here, and so no number and no set.
-fn argument(i: usize) -> Parsed {
+fn argument<R: Env>(rt: &R, i: usize) -> Parsed {
     let mut word = [0u8; 128];
-    let n = os::arg(i, &mut word);
+    let n = console::argument(rt, i, &mut word);
     text::parse(&word[..n])
 }
 
-fn set_argument(i: usize) -> Parsed {
+fn set_argument<R: Env>(rt: &R, i: usize) -> Parsed {
     let mut word = [0u8; 128];
-    let n = os::arg(i, &mut word);
+    let n = console::argument(rt, i, &mut word);
     match sets::parse_set(&word[..n]) {
         Parsed::Number(set) => Parsed::Number(set),
         Parsed::Nothing => text::parse(&word[..n]),
     }
 }
 
-fn asked() -> Request {
-    let count = os::arg_count();
-    if (count != 5) & (count != 6) {
+// There are four arguments or five.
+fn asked<R: Env>(rt: &R) -> Request {
+    if !console::is_given(rt, 4) | console::is_given(rt, 6) {
         return Request::Unclear;
     }
-    let Parsed::Number(issuer) = argument(1) else {
+    let Parsed::Number(issuer) = argument(rt, 1) else {
         return Request::Unclear;
     };
-    let Parsed::Number(name) = argument(2) else {
+    let Parsed::Number(name) = argument(rt, 2) else {
         return Request::Unclear;
     };
-    let Parsed::Number(set) = set_argument(3) else {
+    let Parsed::Number(set) = set_argument(rt, 3) else {
         return Request::Unclear;
     };
-    let Parsed::Number(minute) = argument(4) else {
+    let Parsed::Number(minute) = argument(rt, 4) else {
         return Request::Unclear;
     };
     Request::Query(Query {
@@ -172,25 +177,31 @@ fn asked() -> Request {
     })
 }
 
-fn answer(q: Query) {
+fn answer<R: Env + Files, I: Read, O: Print, E: Print>(
+    rt: &R,
+    standard: &mut I,
+    out: &O,
+    err: &E,
+    q: Query,
+) {
     let mut buffer = console::room();
-    let input = console::read(&mut buffer);
+    let input = console::read(standard, err, &mut buffer);
     if input.failed {
         return;
     }
     let n = input.count;
-    if os::arg_count() == 5 {
+    if !console::is_given(rt, 5) {
         let none = withdrawals::none();
-        print_proof(&buffer[..n], &none, q);
+        print_proof(out, err, &buffer[..n], &none, q);
         return;
     }
     let mut list = list_room();
-    let given = read_list(&mut list);
+    let given = read_list(rt, err, &mut list);
     if given.failed {
         return;
     }
     let k = given.count;
-    print_proof(&buffer[..n], &list[..k], q);
+    print_proof(out, err, &buffer[..n], &list[..k], q);
 }
 
 // One byte more than the longest list, so that a longer one is refused as such.
@@ -200,27 +211,41 @@ fn list_room() -> [u8; 2051]
     [0; 2051]
 }
 
-// Reads the file that the fifth argument names.
-fn read_list(list: &mut [u8]) -> Input
-    ensures { IsPrefixLen result.count list.new }
-{
+// Opens the file that the fifth argument names. A name of more than 4,096 bytes counts as an empty one; one that is no UTF-8 is refused.
+fn open_list<R: Env + Files>(rt: &R) -> io::Result<R::File> {
     let mut path = [0u8; 4096];
-    let n = os::arg(5, &mut path);
-    let fd = os::open_read(&path[..n]);
-    if fd < 0 {
-        os::fail(b"the withdrawal list cannot be opened");
-        return Input {
-            count: 0,
-            failed: true,
-        };
+    let n = console::argument(rt, 5, &mut path);
+    match str::from_utf8(&path[..n]) {
+        Ok(name) => fs::open(rt, name),
+        Err(_) => Err(io::Error::from(io::ErrorKind::InvalidFilename)),
     }
-    console::read_from(fd, list, b"the withdrawal list cannot be read")
 }
 
-fn main() {
-    match asked() {
-        Request::Query(q) => answer(q),
+// Reads the file that the fifth argument names.
+fn read_list<R: Env + Files, E: Print>(rt: &R, err: &E, list: &mut [u8]) -> Input
+    ensures { result.count ≤ length list.new }
+{
+    match open_list(rt) {
+        Ok(mut file) => {
+            console::read_from(&mut file, err, list, b"the withdrawal list cannot be read")
+        }
+        Err(why) => {
+            console::fail(err, b"the withdrawal list cannot be opened", why);
+            Input {
+                count: 0,
+                failed: true,
+            }
+        }
+    }
+}
+
+fn main(rt: HostRuntime) {
+    let out = rt.stdout();
+    let err = rt.stderr();
+    match asked(&rt) {
+        Request::Query(q) => answer(&rt, &mut rt.stdin(), &out, &err, q),
         Request::Unclear => console::usage(
+            &err,
             b"usage: rtt-proof ISSUER NAME SET MINUTE [WITHDRAWALS] < FILE\nNumbers are decimal, up to 4294967295. SET is a set of entities, as '{1,3}', or its number, which has bit e for entity e.\nFILE is a credentials file, WITHDRAWALS a file with a withdrawal list; without it nothing is withdrawn. Prints a proof that the set holds the role at the minute.\n",
         ),
     }
