@@ -8,11 +8,11 @@ ghost use Rattle.file.specs.Format.{byte, two, four};
 ghost use Rattle.sentences.specs.Filling.{beginning, piece, turned, next, filled, line_from, sentence, most, fitting};
 
 // A line of some words, counted from 0, and the numbers in it.
-#[derive(Drop)]
+#[derive(Clone, Copy)]
 pub struct Sentence(pub u32, pub [u32; 4]);
 
 // Where filling a line stands: whether words are put, the number before, the numbers to come.
-#[derive(Drop)]
+#[derive(Clone, Copy)]
 struct Filling {
     on: bool,
     before: u32,
