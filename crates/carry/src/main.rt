@@ -4,7 +4,7 @@
 ghost use Rattle.std.specs.Prelude.{◌≡◌, ◌≤◌, length};
 
 use carrying::Carried;
-use libc::STDOUT_FILENO;
+use std::env::Env;
 
 // The longest files have 5,126 and 4,102 bytes.
 fn room() -> [u8; 5126]
@@ -28,97 +28,100 @@ fn count_in(bytes: usize, size: usize) -> usize
     n
 }
 
-fn write_result(list: &[u8]) {
-    if !io::write_all(STDOUT_FILENO, list) {
-        os::fail(b"standard output cannot be written");
+fn write_result<O: Print, E: Print>(out: &O, err: &E, list: &[u8]) {
+    if let Err(why) = out.write_all(list) {
+        console::fail(err, b"standard output cannot be written", why);
     }
 }
 
 // What stands before a sentence on standard error: `refused`, number, place.
-fn start_line(number: u32, place: u32) {
+fn start_line<E: Print>(err: &E, number: u32, place: u32) {
     let mut line = [0u8; 128];
     let n = lines::refused_start(&mut line, number, place);
-    console::write_error(&line, n);
+    console::write_error(err, &line, n);
 }
 
-fn explain(file: &[u8], number: u32, place: u32) {
+fn explain<E: Print>(err: &E, file: &[u8], number: u32, place: u32) {
     let mut line = [0u8; 256];
     let n = carry_sentences::carry_line(&mut line, file, number, place);
-    console::write_sentence(&line, n);
+    console::write_sentence(err, &line, n);
 }
 
 // The sentences of a new file's 1, 2 and 8 are so of an old one too.
-fn refuse_old(old: &[u8], number: u32, place: u32) {
-    start_line(number, place);
+fn refuse_old<E: Print>(err: &E, old: &[u8], number: u32, place: u32) {
+    start_line(err, number, place);
     if (number == 1) | (number == 2) | (number == 8) {
-        console::explain(old, number, place);
+        console::explain(err, old, number, place);
         return;
     }
-    explain(old, number, place);
+    explain(err, old, number, place);
 }
 
-fn refuse_new(file: &[u8], number: u32, place: u32) {
-    start_line(number, place);
+fn refuse_new<E: Print>(err: &E, file: &[u8], number: u32, place: u32) {
+    start_line(err, number, place);
     if (number <= 8) | (number == 17) {
-        console::explain(file, number, place);
+        console::explain(err, file, number, place);
         return;
     }
-    explain(file, number, place);
+    explain(err, file, number, place);
 }
 
-fn forward_into(list: &mut [u8], old: &[u8]) {
+fn forward_into<O: Print, E: Print>(out: &O, err: &E, list: &mut [u8], old: &[u8]) {
     match carrying::forward(old, list) {
-        Carried::Credentials(_) => write_result(list),
-        Carried::Refused { number, place } => refuse_old(old, number, place),
+        Carried::Credentials(_) => write_result(out, err, list),
+        Carried::Refused { number, place } => refuse_old(err, old, number, place),
     }
 }
 
-fn back_into(list: &mut [u8], file: &[u8]) {
+fn back_into<O: Print, E: Print>(out: &O, err: &E, list: &mut [u8], file: &[u8]) {
     match carrying::back(file, list) {
-        Carried::Credentials(_) => write_result(list),
-        Carried::Refused { number, place } => refuse_new(file, number, place),
+        Carried::Credentials(_) => write_result(out, err, list),
+        Carried::Refused { number, place } => refuse_new(err, file, number, place),
     }
 }
 
-fn bring_forward(old: &[u8]) {
+fn bring_forward<O: Print, E: Print>(out: &O, err: &E, old: &[u8]) {
     let mut list = room();
     let n = 6 + 20 * count_in(old.len(), 16);
-    forward_into(&mut list[..n], old);
+    forward_into(out, err, &mut list[..n], old);
 }
 
-fn bring_back(file: &[u8]) {
+fn bring_back<O: Print, E: Print>(out: &O, err: &E, file: &[u8]) {
     let mut list = room();
     let n = 6 + 16 * count_in(file.len(), 20);
-    back_into(&mut list[..n], file);
+    back_into(out, err, &mut list[..n], file);
 }
 
 // Whether the one argument is this word.
-fn asked_for(word: &[u8]) -> bool {
-    if os::arg_count() != 2 {
+fn asked_for<R: Env>(rt: &R, word: &[u8]) -> bool {
+    if !console::is_given(rt, 1) | console::is_given(rt, 2) {
         return false;
     }
     let mut argument = [0u8; 128];
-    let n = os::arg(1, &mut argument);
-    check::same(&argument[..n], word)
+    let n = console::argument(rt, 1, &mut argument);
+    &argument[..n] == word
 }
 
-fn main() {
-    let onward = asked_for(b"forward");
-    if !onward & !asked_for(b"back") {
+fn main(rt: HostRuntime) {
+    let out = rt.stdout();
+    let err = rt.stderr();
+    let onward = asked_for(&rt, b"forward");
+    if !onward & !asked_for(&rt, b"back") {
         console::usage(
+            &err,
             b"usage: rtt-carry forward < OLD > FILE\n       rtt-carry back < FILE > OLD\nFILE is a credentials file. OLD is one of version 1: it has no serials, and its periods do not cover their `to`.\n",
         );
         return;
     }
     let mut buffer = console::room();
-    let input = console::read(&mut buffer);
+    let input = console::read(&mut rt.stdin(), &err, &mut buffer);
     if input.failed {
         return;
     }
     let n = input.count;
     if onward {
-        bring_forward(&buffer[..n]);
+        bring_forward(&out, &err, &buffer[..n]);
         return;
     }
-    bring_back(&buffer[..n]);
+    bring_back(&out, &err, &buffer[..n]);
 }
