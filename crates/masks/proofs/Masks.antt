@@ -137,6 +137,8 @@ module _ (es : List ℕ) (v : Period) where
 -- ---- the first ends of some that ascend
 
 take_out : {y : ℕ} (n : ℕ) (l : List ℕ) → Mem y (take n l) → Mem y l
+take_out {y = y} zero l x' = elim x' [ ]
+take_out {y = y} (suc n) [] x3 = elim x3 [ ]
 take_out (suc n) (x ∷ l) (head e) = head e
 take_out (suc n) (x ∷ l) (tail i) = tail (take_out n l i)
 

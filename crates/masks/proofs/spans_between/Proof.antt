@@ -5,20 +5,20 @@ use borrow.Author.Rules.{rules}
 use Rattle.masks.proofs.spans_between.Statement.{statement}
 use Rattle.masks.proofs.spans_between.Tie as tie
 
-returns : tie.Need-returns
-returns c = no-spans c.before.args.p c.before.args.q c.if1.true
+returns : tie.Need-returns-then-q-p
+returns c = no-spans c.before.args.p c.before.args.q c.if-q-p.true
 
-shl-result : tie.Need-overflow-shl-result
+shl-result : tie.Need-overflow_shl-result
 shl-result c = search rules
 
-shl-result-2 : tie.Need-overflow-shl-result-2
+shl-result-2 : tie.Need-overflow_shl-result-2
 shl-result-2 c = search rules
 
-sub-result : tie.Need-overflow-sub-result
+sub-result : tie.Need-overflow_sub-result
 sub-result c = shifts-ordered c.before.args.p c.before.args.q c.before.requires.0 c.before.requires.1 (omega arith)
 
-returns-2 : tie.Need-returns-2
+returns-2 : tie.Need-returns
 returns-2 c = some-spans c.before.args.p c.before.args.q c.before.requires.0 c.before.requires.1
 
-pub spans-between-spec : {M : Type 1} → statement M
-spans-between-spec = tie.close (tie.spec returns shl-result shl-result-2 sub-result returns-2)
+pub spans_between_spec : {M : Type 1} → statement M
+spans_between_spec = tie.close (tie.spec returns shl-result shl-result-2 sub-result returns-2)
