@@ -9,7 +9,7 @@ ghost use Rattle.completing.specs.Completing.{lent, table_ending, completing, sa
 ghost use Rattle.completing.specs.Working.{last_ending};
 
 // The count of memberships valid at one minute or more, or a refusal.
-#[derive(Drop)]
+#[derive(Clone, Copy)]
 pub enum Completed {
     Memberships(u32),
     Refused { number: u32, place: u32 },
@@ -23,7 +23,7 @@ pub fn complete(
     sets: &mut [u32],
     spans: &mut [u64],
 ) -> Completed
-    ensures { table_ending (says_completed result) roles.new sets.new spans.new ≡ completing (file.now without (λ x. x.now) withdrawals.entry) (lent roles.old sets.old spans.old) }
+    ensures { table_ending (says_completed result) roles.new sets.new spans.new ≡ completing (file.now without withdrawals.now) (lent roles.old sets.old spans.old) }
 {
     let mut policy = policy::room();
     let mut ends = survey::no_ends();
