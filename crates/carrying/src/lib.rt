@@ -10,14 +10,14 @@ ghost use Rattle.carrying.specs.Carrying.{forward_of, back_of, going_forward, fo
 ghost use Rattle.carrying.specs.Judging.{OldSized, OldHeaded, Judges, FirstOut};
 
 // The count of the credentials that were carried, or a refusal.
-#[derive(Drop)]
+#[derive(Clone, Copy)]
 pub enum Carried {
     Credentials(u32),
     Refused { number: u32, place: u32 },
 }
 
 // Number and place of a file's refusal; where there is none, 0 and 0 and the count of its credentials.
-#[derive(Drop)]
+#[derive(Clone, Copy)]
 pub struct Judgement {
     pub number: u32,
     pub place: u32,

@@ -8,41 +8,41 @@ use borrow.Author.Rules.{rules}
 use Rattle.carrying.proofs.first_out_of_place.Statement.{statement}
 use Rattle.carrying.proofs.first_out_of_place.Tie as tie
 
-abbrev invariant-loop : tie.invariant-loop
+abbrev invariant-loop : tie.invariant-loop-i
 invariant-loop file n i₀ i = (i ≤ n) × ((k : ℕ) → k < i → serial_of file k ≡ k + 1)
 
-abbrev decreases-loop : tie.decreases-loop
+abbrev decreases-loop : tie.decreases-loop-i
 decreases-loop file n i₀ i = n - i
 
-loop-holds : tie.Need-loop-init invariant-loop decreases-loop
+loop-holds : tie.Need-loop-i-init invariant-loop decreases-loop
 loop-holds c = (omega arith, λ k l. absurd (omega arith))
 
-serial-at-requires : tie.Need-serial-at-requires invariant-loop decreases-loop
+serial-at-requires : tie.Need-serial_at-requires invariant-loop decreases-loop
 serial-at-requires c κs = search rules
 
-cast-if1 : tie.Need-overflow-cast-if1 invariant-loop decreases-loop
+cast-if1 : tie.Need-overflow_cast-serial_at invariant-loop decreases-loop
 cast-if1 c = search rules
 
-add-if1 : tie.Need-overflow-add-if1 invariant-loop decreases-loop
+add-if1 : tie.Need-overflow_add-i invariant-loop decreases-loop
 add-if1 c = search rules
 
-returns : tie.Need-returns invariant-loop decreases-loop
-returns c = let l = c.before.before.before.loop in record { within = omega arith; before = l.invariant.1; out = λ h e. c.if1.true (c.before.serial-at.ensures ∙ e) }
+returns : tie.Need-returns-then-serial_at-i invariant-loop decreases-loop
+returns c = let l = c.before.before.before.loop-i in record { within = omega arith; before = l.invariant.1; out = λ h e. c.if-serial_at-i.true (c.before.serial_at.ensures ∙ e) }
 
-add-i : tie.Need-overflow-add-i invariant-loop decreases-loop
+add-i : tie.Need-overflow_add-i-in-loop-i invariant-loop decreases-loop
 add-i c = search rules
 
-loop-less : tie.Need-loop-smaller invariant-loop decreases-loop
+loop-less : tie.Need-loop-i-smaller invariant-loop decreases-loop
 loop-less c = search rules
 
-loop-again : tie.Need-loop-preserved invariant-loop decreases-loop
-loop-again c = let l = c.before.before.before.loop in (omega arith, below_more _ _ l.invariant.1 (sym c.before.serial-at.ensures ∙ c.if1.false))
+loop-again : tie.Need-loop-i-preserved invariant-loop decreases-loop
+loop-again c = let l = c.before.before.before.loop-i in (omega arith, below_more _ _ l.invariant.1 (sym c.before.serial_at.ensures ∙ c.if-serial_at-i.false))
 
-returns-2 : tie.Need-returns-2 invariant-loop decreases-loop
-returns-2 c = let l = c.before.loop in record { within = omega arith; before = λ k m. l.invariant.1 k (omega arith); out = λ h e. absurd (omega arith) }
+returns-2 : tie.Need-returns invariant-loop decreases-loop
+returns-2 c = let l = c.before.loop-i in record { within = omega arith; before = λ k m. l.invariant.1 k (omega arith); out = λ h e. absurd (omega arith) }
 
-pub first-out-of-place-spec : {M : Type 1} → statement M
-first-out-of-place-spec =
+pub first_out_of_place_spec : {M : Type 1} → statement M
+first_out_of_place_spec =
     tie.close
     (tie.spec
     invariant-loop
