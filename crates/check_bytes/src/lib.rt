@@ -27,7 +27,7 @@ pub fn check(
     n: usize,
 ) -> u64
     requires { StepSizes (step_lists credential.now first.now second.now sets.now) n }
-    ensures { result ≡ word (λ n. n) (check_reply (file.now without (λ x. x.now) withdrawals.entry) (request role set minute) (step_lists credential.now first.now second.now sets.now) steps) }
+    ensures { result ≡ word (λ n. n) (check_reply (file.now without withdrawals.now) (request role set minute) (step_lists credential.now first.now second.now sets.now) steps) }
 {
     let count = fewer(steps, n);
     let mut credential_room = replies::room32();

@@ -12,14 +12,14 @@ ghost use Rattle.checking.specs.Walks.{Walkable, Walked, concluded_by};
 use steps::Step;
 
 // The level of a proof that follows the rules, or a refusal.
-#[derive(Drop)]
+#[derive(Clone, Copy)]
 pub enum Checked {
     Level(u32),
     Refused { number: u32, place: u32 },
 }
 
 // How many steps keep the rules before the first that does not; where all do, what the last one shows.
-#[derive(Drop)]
+#[derive(Clone, Copy)]
 struct Kept {
     count: usize,
     role: u32,
@@ -40,7 +40,7 @@ pub fn check(
     sets: &[u32],
     steps: usize,
 ) -> Checked
-    ensures { says_checked result ≡ checking (file.now without (λ x. x.now) withdrawals.entry) (request role set minute) (step_lists credential.now first.now second.now sets.now) steps }
+    ensures { says_checked result ≡ checking (file.now without withdrawals.now) (request role set minute) (step_lists credential.now first.now second.now sets.now) steps }
 {
     let mut policy = policy::room();
     let j = asking::judge(

@@ -31,8 +31,8 @@ pub fn complete(
     n: usize,
 ) -> u64
     requires { TableSizes (lent roles.old sets.old spans.old) n }
-    ensures value { result ≡ word (λ n. n) (complete_bytes (file.now without (λ x. x.now) withdrawals.entry) (lent roles.old sets.old spans.old)).reply }
-    ensures spans_after { lent roles.new sets.new spans.new ≡ (complete_bytes (file.now without (λ x. x.now) withdrawals.entry) (lent roles.old sets.old spans.old)).lists }
+    ensures value { result ≡ word (λ n. n) (complete_bytes (file.now without withdrawals.now) (lent roles.old sets.old spans.old)).reply }
+    ensures spans_after { lent roles.new sets.new spans.new ≡ (complete_bytes (file.now without withdrawals.now) (lent roles.old sets.old spans.old)).lists }
 {
     let mut role_room = replies::room32();
     let mut set_room = replies::room32();

@@ -8,8 +8,8 @@ ghost use Rattle.ends_bytes.specs.Interface.{ends_reply, ends_bytes};
 
 // Into a list of 256 bytes; the reply is how many there are, or a refusal.
 pub fn ends(list: &mut [u8], file: &[u8], withdrawals: &[u8]) -> u64
-    ensures value { result ≡ word (λ n. n) (ends_reply (file.now without (λ x. x.now) withdrawals.entry) list.old) }
-    ensures list_after { list.new ≡ ends_bytes (file.now without (λ x. x.now) withdrawals.entry) list.old }
+    ensures value { result ≡ word (λ n. n) (ends_reply (file.now without withdrawals.now) list.old) }
+    ensures list_after { list.new ≡ ends_bytes (file.now without withdrawals.now) list.old }
 {
     let e = ends::ends_of(file, withdrawals);
     if e.number != 0 {

@@ -8,21 +8,21 @@ ghost use Rattle.file.specs.Reading.{between, credential_rows};
 ghost use Rattle.file.specs.Values.{head_in, no_sizes, first_number, Headed, dates_in, period_in};
 
 // An entity's number; never a role name's.
-#[derive(Drop)]
+#[derive(Clone, Copy)]
 pub struct Entity(pub u8);
 
 // A role name's number; never an entity's.
-#[derive(Drop)]
+#[derive(Clone, Copy)]
 pub struct RoleName(pub u8);
 
-#[derive(Drop)]
+#[derive(Clone, Copy)]
 pub struct Role {
     pub issuer: Entity,
     pub name: RoleName,
 }
 
 // What stands right of the arrow. A set has bit e for entity e.
-#[derive(Drop)]
+#[derive(Clone, Copy)]
 pub enum Body {
     Set(u32),
     Inclusion(Role),
@@ -33,7 +33,7 @@ pub enum Body {
 }
 
 // A credential with its serial and its period, which may be empty.
-#[derive(Drop)]
+#[derive(Clone, Copy)]
 pub struct Credential {
     pub serial: u32,
     pub head: Role,
@@ -42,14 +42,14 @@ pub struct Credential {
 }
 
 // What stands at a position.
-#[derive(Drop)]
+#[derive(Clone, Copy)]
 pub enum Found {
     Credential(Credential),
     End,
 }
 
 // The minutes from `from` up to, not including, `until`.
-#[derive(Drop)]
+#[derive(Clone, Copy)]
 pub struct Period {
     pub from: u32,
     pub until: u32,
@@ -71,14 +71,14 @@ impl Period {
 }
 
 // The first and the last minute of a period, as the file has them.
-#[derive(Drop)]
+#[derive(Clone, Copy)]
 pub struct Dates {
     pub from: u32,
     pub to: u32,
 }
 
 // The sizes of a file that passes 1 to 3; otherwise the refusal's number and no sizes.
-#[derive(Drop)]
+#[derive(Clone, Copy)]
 pub struct Head {
     pub number: u32,
     pub entities: u32,
@@ -87,14 +87,14 @@ pub struct Head {
 }
 
 // Number and place of a refusal; both 0 where there is none.
-#[derive(Drop)]
+#[derive(Clone, Copy)]
 pub struct Refusal {
     pub number: u32,
     pub place: u32,
 }
 
 // Which of s, c and t a kind uses. Every kind uses b.
-#[derive(Drop)]
+#[derive(Clone, Copy)]
 pub struct Used {
     pub s: bool,
     pub c: bool,

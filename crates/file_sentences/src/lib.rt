@@ -3,7 +3,7 @@
 #![tactic(auto)]
 
 ghost use Rattle.std.specs.Prelude.{◌≡◌, not, eqb, leb};
-ghost use Rattle.meaning.specs.Lists.{if as Lists·if};
+ghost use Rattle.meaning.specs.Lists.{if as lists_if};
 ghost use Rattle.text.specs.Lines.{LinedIn};
 ghost use Rattle.file.specs.Format.{field};
 ghost use Rattle.file.specs.Reading.{between, uses};
@@ -171,7 +171,7 @@ fn stray_entity(file: &[u8], i: u32, e: u32) -> u32
 
 // The first byte of a name that is not below r, of those that the kind uses; 0 where there is none.
 fn stray_name(file: &[u8], i: u32, r: u32) -> u32
-    ensures* { λ j. ⌜ j ≡ first_of (λ j. leb r (field file.now i j)) (uses (field file.now i 0)).names ⌝ }
+    ensures { result ≡ first_of (λ j. leb r (field file.now i j)) (uses (field file.now i 0)).names }
 {
     let kind = field_at(file, i, 0);
     let used = kind <= 5;
@@ -192,7 +192,7 @@ fn stray_byte(file: &[u8], i: u32) -> u32
 }
 
 fn either(test: bool, x: u32, y: u32) -> u32
-    ensures { result ≡ Lists·if test x y }
+    ensures { result ≡ lists_if test x y }
 {
     if test {
         return x;

@@ -11,7 +11,7 @@ ghost use Rattle.asking.specs.Asking.{request, StepLists, Sized};
 ghost use Rattle.finding.specs.Finding.{Prepares, Finds};
 
 // Number and place of a refusal; or number 0, with the membership's entry and its level.
-#[derive(Drop)]
+#[derive(Clone, Copy)]
 pub struct Found {
     pub number: u32,
     pub place: u32,
@@ -20,7 +20,7 @@ pub struct Found {
 }
 
 // A role, a set and a minute, and the lengths of four lists.
-#[derive(Drop)]
+#[derive(Clone, Copy)]
 struct Question {
     role: u32,
     set: u32,
@@ -32,7 +32,7 @@ struct Question {
 }
 
 // Number and place of a refusal; or number 0, and how many entries were loaded.
-#[derive(Drop)]
+#[derive(Clone, Copy)]
 struct Prepared {
     number: u32,
     place: u32,
@@ -54,7 +54,7 @@ pub fn find(
     sets: usize,
 ) -> Found
     requires { (keys.old ≡ replicate 1024 0) × (notes.old ≡ replicate 3072 0) }
-    ensures { (t : StepLists) → Sized t credential first second sets → Finds (file.now without (λ x. x.now) withdrawals.entry) (request role set minute) t keys.new notes.new result }
+    ensures { (t : StepLists) → Sized t credential first second sets → Finds (file.now without withdrawals.now) (request role set minute) t keys.new notes.new result }
 {
     let mut spans = store::room_for_keys();
     let mut slots = store::room_for_slots();
@@ -124,7 +124,7 @@ fn prepare(
 ) -> Prepared
     requires fact_1 { Kept keys.old spans.old slots.old links.old notes.old 0 }
     requires fact_2 { NoUses codes.old valid.old lists.old }
-    ensures { (t : StepLists) → Sized t q.credential q.first q.second q.sets → Prepares (file.now without (λ x. x.now) withdrawals.entry) (request q.role q.set q.minute) t keys.new spans.new slots.new links.new notes.new codes.new valid.new lists.new result }
+    ensures { (t : StepLists) → Sized t q.credential q.first q.second q.sets → Prepares (file.now without withdrawals.now) (request q.role q.set q.minute) t keys.new spans.new slots.new links.new notes.new codes.new valid.new lists.new result }
 {
     let mut policy = policy::room();
     let j = asking::judge(

@@ -12,7 +12,7 @@ use completing::Completed;
 use querying::Answer;
 
 // What the three calls answered.
-#[derive(Drop)]
+#[derive(Clone, Copy)]
 pub struct Replies {
     pub completed: Completed,
     pub answer: Answer,
@@ -34,7 +34,7 @@ pub fn ask(
     second: &mut [u32],
     results: &mut [u32],
 ) -> Replies
-    ensures { Together (file.now without (λ x. x.now) withdrawals.entry) (request role set minute) (lent roles.old sets.old spans.old) (lent roles.new sets.new spans.new) (step_lists credential.old first.old second.old results.old) (step_lists credential.new first.new second.new results.new) result }
+    ensures { Together (file.now without withdrawals.now) (request role set minute) (lent roles.old sets.old spans.old) (lent roles.new sets.new spans.new) (step_lists credential.old first.old second.old results.old) (step_lists credential.new first.new second.new results.new) result }
 {
     let completed = completing::complete(file, withdrawals, roles, sets, spans);
     let answer = querying::query(

@@ -8,7 +8,7 @@ ghost use Rattle.withdrawals.specs.Source.{◌without◌};
 ghost use Rattle.joint_bytes.specs.Calls.{TogetherBytes, steps_of};
 
 // What the three calls replied.
-#[derive(Drop)]
+#[derive(Clone, Copy)]
 pub struct Replies {
     pub completed: u64,
     pub queried: u64,
@@ -30,7 +30,7 @@ pub fn ask(
     second: &mut [u8],
     results: &mut [u8],
 ) -> Replies
-    ensures { TogetherBytes (file.now without (λ x. x.now) withdrawals.entry) (request role set minute) (lent roles.old sets.old spans.old) (lent roles.new sets.new spans.new) (step_lists credential.old first.old second.old results.old) (step_lists credential.new first.new second.new results.new) result }
+    ensures { TogetherBytes (file.now without withdrawals.now) (request role set minute) (lent roles.old sets.old spans.old) (lent roles.new sets.new spans.new) (step_lists credential.old first.old second.old results.old) (step_lists credential.new first.new second.new results.new) result }
 {
     let completed = rtt::rtt_complete(file, withdrawals, roles, sets, spans);
     let queried = rtt::rtt_query(

@@ -31,7 +31,7 @@ pub fn query(
     n: usize,
 ) -> u64
     requires { StepSizes (step_lists credential.old first.old second.old sets.old) n }
-    ensures { QueriedBytes (file.now without (λ x. x.now) withdrawals.entry) (request role set minute) (step_lists credential.old first.old second.old sets.old) result (step_lists credential.new first.new second.new sets.new) }
+    ensures { QueriedBytes (file.now without withdrawals.now) (request role set minute) (step_lists credential.old first.old second.old sets.old) result (step_lists credential.new first.new second.new sets.new) }
 {
     let mut keys = store::room_for_keys();
     let mut notes = store::room_for_notes();

@@ -9,7 +9,7 @@ ghost use Rattle.querying.specs.Querying.{counts, Queried, says_answer};
 ghost use Rattle.querying.specs.Working.{Proves, step_count};
 
 // How many steps the proof has, and its level; or a refusal.
-#[derive(Drop)]
+#[derive(Clone, Copy)]
 pub enum Answer {
     Proof { steps: u32, level: u32 },
     Refused { number: u32, place: u32 },
@@ -27,7 +27,7 @@ pub fn query(
     second: &mut [u32],
     sets: &mut [u32],
 ) -> Answer
-    ensures { Queried (file.now without (λ x. x.now) withdrawals.entry) (request role set minute) (step_lists credential.old first.old second.old sets.old) (says_answer result) (step_lists credential.new first.new second.new sets.new) }
+    ensures { Queried (file.now without withdrawals.now) (request role set minute) (step_lists credential.old first.old second.old sets.old) (says_answer result) (step_lists credential.new first.new second.new sets.new) }
 {
     let mut keys = store::room_for_keys();
     let mut notes = store::room_for_notes();
@@ -74,7 +74,7 @@ pub fn prove(
     sets: usize,
 ) -> Answer
     requires { (keys.old ≡ replicate 1024 0) × (notes.old ≡ replicate 3072 0) }
-    ensures { (t : StepLists) → Sized t credential first second sets → Proves (file.now without (λ x. x.now) withdrawals.entry) (request role set minute) t keys.new notes.new (says_answer result) }
+    ensures { (t : StepLists) → Sized t credential first second sets → Proves (file.now without withdrawals.now) (request role set minute) t keys.new notes.new (says_answer result) }
 {
     let found = finding::find(
         keys,

@@ -16,7 +16,7 @@ pub fn refusal(number: u32, place: u32) -> u64
 
 // The refusals of the file with its withdrawals, then 9.
 pub fn refuse(file: &[u8], withdrawals: &[u8]) -> u64
-    ensures { result ≡ word (λ n. n) (not_whole (file.now without (λ x. x.now) withdrawals.entry) 0) }
+    ensures { result ≡ word (λ n. n) (not_whole (file.now without withdrawals.now) 0) }
 {
     let e = ends::ends_of(file, withdrawals);
     if e.number != 0 {

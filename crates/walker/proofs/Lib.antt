@@ -1,3 +1,2 @@
-pub mod Thin
 pub mod Places
 pub mod Claims

@@ -7,7 +7,7 @@ ghost use Rattle.file.specs.Values.{found_in};
 ghost use Rattle.walker.specs.Walking.{opened, walker_of, place_after, next_of, found_at, credential_of, refusal_in, says_entry};
 
 // The credential at place `at` of the file. A refused walker carries the refusal's number and place, and is at its end.
-#[derive(Drop)]
+#[derive(Clone, Copy)]
 pub struct Walker<'a> {
     file: &'a [u8],
     at: usize,
@@ -16,7 +16,7 @@ pub struct Walker<'a> {
 }
 
 // What stands at a place of a file.
-#[derive(Drop)]
+#[derive(Clone, Copy)]
 pub enum Entry {
     Credential(file::Credential),
     End,
