@@ -30,76 +30,76 @@ sized s = record { credential = refl; first = refl; second = refl; sets = refl }
 abbrev asked : Admission → Refusal
 asked j = record { number = j.number; place = j.place }
 
-room-requires : tie.Need-room-requires
+room-requires : tie.Need-room-policy-requires
 room-requires c κs = search rules
 
-judge-requires : tie.Need-judge-requires
+judge-requires : tie.Need-judge-j-requires
 judge-requires c κs = search rules
 
-returns : tie.Need-returns
+returns : tie.Need-returns-then-j-ne0
 returns c =
     let s = c.before.before.before.before.before.before.before.before.before.before.before in
-    let j = c.before.before.judge in
-    request-refused (s.args.file.now without s.args.withdrawals.now) (q s) (t s) s.args.steps (asked j.result) (j.ensures (t s) (sized s)).refusal c.if1.true
+    let j = c.before.before.judge-j in
+    request-refused (s.args.file.now without s.args.withdrawals.now) (q s) (t s) s.args.steps (asked j.result) (j.ensures (t s) (sized s)).refusal c.if-j-ne0.true
 
-returns-2 : tie.Need-returns-2
+returns-2 : tie.Need-returns-then-not-steps-credential
 returns-2 c =
     let s = c.before.before.before.before.before.before.before.before.before.before.before.before in
-    let j = c.before.before.before.judge in
-    count-refused (s.args.file.now without s.args.withdrawals.now) (q s) (t s) s.args.steps (asked j.result) (j.ensures (t s) (sized s)).refusal c.before.if1.false (not-true _ c.if2.true)
+    let j = c.before.before.before.judge-j in
+    count-refused (s.args.file.now without s.args.withdrawals.now) (q s) (t s) s.args.steps (asked j.result) (j.ensures (t s) (sized s)).refusal c.before.if-j-ne0.false (not-true _ c.if-not-steps-credential.true-raw)
 
 -- nothing of the request or of the count is refused, and the policy is there
-abbrev start : tie.After-policy2 → tie.Start
+abbrev start : tie.After-policy-2-1 → tie.Start
 start c = c.before.before.before.before.before.before.before.before.before.before.before.before.before
 
-abbrev judging : tie.After-policy2 → tie.After-judge
+abbrev judging : tie.After-policy-2-1 → tie.After-judge-j
 judging c = c.before.before.before.before
 
-decoded : (c : tie.After-policy2) → PolicyOf ((start c).args.file.now without (start c).args.withdrawals.now) (judging c).judge.new.0 (judging c).judge.result.credentials
-decoded c = ((judging c).judge.ensures (t (start c)) (sized (start c))).policy c.before.before.if1.false
+decoded : (c : tie.After-policy-2-1) → PolicyOf ((start c).args.file.now without (start c).args.withdrawals.now) (judging c).judge-j.new.policy (judging c).judge-j.result.credentials
+decoded c = ((judging c).judge-j.ensures (t (start c)) (sized (start c))).policy c.before.before.if-j-ne0.false
 
-able : (c : tie.After-policy2) → Walkable (judging c).judge.result.credentials (part_before (start c).args.steps (t (start c))) (start c).args.steps
+able : (c : tie.After-policy-2-1) → Walkable (judging c).judge-j.result.credentials (part_before (start c).args.steps (t (start c))) (start c).args.steps
 able c =
     let s = start c in
-    let j = (judging c).judge in
-    walkable (s.args.file.now without s.args.withdrawals.now) (q s) (t s) s.args.steps (asked j.result) (j.ensures (t s) (sized s)).refusal c.before.before.if1.false (not-false _ c.before.if2.false) (decoded c).decoded.few
+    let j = (judging c).judge-j in
+    walkable (s.args.file.now without s.args.withdrawals.now) (q s) (t s) s.args.steps (asked j.result) (j.ensures (t s) (sized s)).refusal c.before.before.if-j-ne0.false (not-false _ c.before.if-not-steps-credential.false-raw) (decoded c).decoded.few
 
-concluded : (c : tie.After-policy2) → let s = start c in
-    concluding (credentials_of (judging c).judge.new.0 (judging c).judge.result.credentials) (q s) (part_before s.args.steps (t s)) s.args.steps ≡ checking (s.args.file.now without s.args.withdrawals.now) (q s) (t s) s.args.steps
+concluded : (c : tie.After-policy-2-1) → let s = start c in
+    concluding (credentials_of (judging c).judge-j.new.policy (judging c).judge-j.result.credentials) (q s) (part_before s.args.steps (t s)) s.args.steps ≡ checking (s.args.file.now without s.args.withdrawals.now) (q s) (t s) s.args.steps
 concluded c =
     let s = start c in
-    let j = (judging c).judge in
+    let j = (judging c).judge-j in
     ap (λ (cs : List Credential). concluding cs (q s) (part_before s.args.steps (t s)) s.args.steps) (decoded c).means
-    ∙ count-passed (s.args.file.now without s.args.withdrawals.now) (q s) (t s) s.args.steps (asked j.result) (j.ensures (t s) (sized s)).refusal c.before.before.if1.false (not-false _ c.before.if2.false)
+    ∙ count-passed (s.args.file.now without s.args.withdrawals.now) (q s) (t s) s.args.steps (asked j.result) (j.ensures (t s) (sized s)).refusal c.before.before.if-j-ne0.false (not-false _ c.before.if-not-steps-credential.false-raw)
 
-slice-aggregate-walk : tie.Need-slice-aggregate-walk
-slice-aggregate-walk c = sym (able c.before).credential
+slice-aggregate-walk : tie.Need-slice_bounds-walk-end
+slice-aggregate-walk c = sym (able c).credential
 
-slice-aggregate-walk-2 : tie.Need-slice-aggregate-walk-2
-slice-aggregate-walk-2 c = sym (able c.before.before).first
+slice-aggregate-walk-2 : tie.Need-slice_bounds-walk-end-2
+slice-aggregate-walk-2 c = sym (able c).first
 
-slice-aggregate-walk-3 : tie.Need-slice-aggregate-walk-3
-slice-aggregate-walk-3 c = sym (able c.before.before.before).second
+slice-aggregate-walk-3 : tie.Need-slice_bounds-walk-end-3
+slice-aggregate-walk-3 c = sym (able c).second
 
-slice-aggregate-walk-4 : tie.Need-slice-aggregate-walk-4
-slice-aggregate-walk-4 c = sym (able c.before.before.before.before).sets
+slice-aggregate-walk-4 : tie.Need-slice_bounds-walk-end-4
+slice-aggregate-walk-4 c = sym (able c).sets
 
-walk-requires : tie.Need-walk-requires
-walk-requires c κs = able c.before.before.before.before
+walk-requires : tie.Need-walk-k-requires
+walk-requires c κs = able c
 
 conclude-requires : tie.Need-conclude-requires
 conclude-requires c κs =
-    let few = (able c.before.before.before.before.before).few in
-    omega (arith, c.walk.ensures.within)
+    let few = (able c.before).few in
+    omega (arith, c.walk-k.ensures.within)
 
-returns-3 : tie.Need-returns-3
+returns-3 : tie.Need-returns
 returns-3 c =
-    let w = c.before.before.before.before.before.before in
+    let w = c.before.before in
     let s = start w in
-    c.conclude.ensures ∙ walk-concludes (credentials_of (judging w).judge.new.0 (judging w).judge.result.credentials) (q s) (part_before s.args.steps (t s)) s.args.steps c.before.walk.ensures ∙ concluded w
+    c.conclude.ensures ∙ walk-concludes (credentials_of (judging w).judge-j.new.policy (judging w).judge-j.result.credentials) (q s) (part_before s.args.steps (t s)) s.args.steps c.before.walk-k.ensures ∙ concluded w
 
-pub check-spec : {M : Type 1} → statement M
-check-spec =
+pub check_spec : {M : Type 1} → statement M
+check_spec =
     tie.close
     (tie.spec
     room-requires

@@ -13,11 +13,12 @@ use Rattle.checking.specs.Walks.{Walking}
 use Rattle.checking.proofs.Walks.{walking-none, known, walk-stops, walk-goes-on, walk_ends}
 use Rattle.checking.proofs.walk.Statement.{statement}
 use Rattle.checking.proofs.walk.Tie as tie
+use Rattle.checking.proofs.walk.Lts.Came-Left-loop-i-unread.{else-loop-i-test, then-loop-i-test+then-not-x}
 
-abbrev invariant-loop : tie.invariant-loop
+abbrev invariant-loop : tie.invariant-loop-i
 invariant-loop policy n minute credential first second sets steps roles₀ levels₀ i₀ roles levels i = (i ≤ steps) × Walking (credentials_of policy n) minute (step_lists credential first second sets) roles levels i
 
-abbrev decreases-loop : tie.decreases-loop
+abbrev decreases-loop : tie.decreases-loop-i
 decreases-loop policy n minute credential first second sets steps roles₀ levels₀ i₀ roles levels i = steps - i
 
 abbrev cs : tie.Start invariant-loop decreases-loop → List Credential
@@ -26,79 +27,81 @@ cs s = credentials_of s.args.policy.now s.args.n
 abbrev t : tie.Start invariant-loop decreases-loop → StepLists
 t s = step_lists s.args.credential.now s.args.first.now s.args.second.now s.args.sets.now
 
-loop-holds : tie.Need-loop-init invariant-loop decreases-loop
+loop-holds : tie.Need-loop-i-init invariant-loop decreases-loop
 loop-holds c =
     let s = c.before.before.before.before in
     (omega arith, walking-none (cs s) s.args.minute (t s) _ _ (length-replicate {A = ℕ} 1024 0) (length-replicate {A = ℕ} 1024 0))
 
-step-at-requires : tie.Need-step-at-requires invariant-loop decreases-loop
+step-at-requires : tie.Need-step_at-s-requires invariant-loop decreases-loop
 step-at-requires c κs =
     let p = c.before.before.before.before.before.before.requires in
     (omega arith, omega arith, omega arith, omega arith)
 
-judge-step-requires : tie.Need-judge-step-requires invariant-loop decreases-loop
+judge-step-requires : tie.Need-judge_step-x-requires invariant-loop decreases-loop
 judge-step-requires c κs =
     let l = c.before.before.before.before in
     let s = l.before.before.before.before.before in
-    (s.requires.credentials, known (cs s) s.args.minute (t s) s.requires c.before.before.before.loop-test.true l.loop.invariant.1)
+    (s.requires.credentials, known (cs s) s.args.minute (t s) s.requires c.before.before.before.loop-i-test.true l.loop-i.invariant.1)
 
-mul-roles : tie.Need-overflow-mul-roles invariant-loop decreases-loop
+mul-roles : tie.Need-offset_bounds-roles-i invariant-loop decreases-loop
 mul-roles c = search rules
 
-array-write-roles : tie.Need-array-write-roles invariant-loop decreases-loop
+array-write-roles : tie.Need-bounds-roles-i invariant-loop decreases-loop
 array-write-roles c = search rules
 
-mul-levels : tie.Need-overflow-mul-levels invariant-loop decreases-loop
+mul-levels : tie.Need-offset_bounds-levels-i invariant-loop decreases-loop
 mul-levels c = search rules
 
-array-write-levels : tie.Need-array-write-levels invariant-loop decreases-loop
+array-write-levels : tie.Need-bounds-levels-i invariant-loop decreases-loop
 array-write-levels c = search rules
 
-add-i : tie.Need-overflow-add-i invariant-loop decreases-loop
+add-i : tie.Need-overflow_add-i invariant-loop decreases-loop
 add-i c = search rules
 
-loop-less : tie.Need-loop-smaller invariant-loop decreases-loop
+loop-less : tie.Need-loop-i-smaller invariant-loop decreases-loop
 loop-less c = search rules
 
-loop-again : tie.Need-loop-preserved invariant-loop decreases-loop
+loop-again : tie.Need-loop-i-preserved invariant-loop decreases-loop
 loop-again c =
     let l = c.before.before.before.before.before.before.before in
     let s = l.before.before.before.before.before in
-    let test = c.before.before.before.before.before.before.loop-test.true in (
+    let test = c.before.before.before.before.before.before.loop-i-test.true in (
       omega arith,
-      walk-goes-on (cs s) s.args.minute (t s) l.loop.invariant.1 c.before.before.before.before.before.step-at.ensures c.before.before.judge-step.ensures (omega (arith, s.requires.few)) (not-false _ c.if1.false),
+      walk-goes-on (cs s) s.args.minute (t s) l.loop-i.invariant.1 c.before.before.before.before.before.step_at-s.ensures c.before.before.judge_step-x.ensures (omega (arith, s.requires.few)) (not-false _ c.if-not-x.false),
     )
 
-sub-last : tie.Need-overflow-sub-last invariant-loop decreases-loop
+sub-last : tie.Need-overflow_sub-last invariant-loop decreases-loop
 sub-last c = search rules
 
-mul-role : tie.Need-overflow-mul-role invariant-loop decreases-loop
+mul-role : tie.Need-offset_bounds-roles-last invariant-loop decreases-loop
 mul-role c = search rules
 
-array-read-role : tie.Need-array-read-role invariant-loop decreases-loop
+array-read-role : tie.Need-bounds-roles-last invariant-loop decreases-loop
 array-read-role c = search rules
 
-mul-set : tie.Need-overflow-mul-set invariant-loop decreases-loop
+mul-set : tie.Need-offset_bounds-sets-last invariant-loop decreases-loop
 mul-set c = search rules
 
-shared-slice-read-set : tie.Need-shared-slice-read-set invariant-loop decreases-loop
+shared-slice-read-set : tie.Need-bounds-sets-last invariant-loop decreases-loop
 shared-slice-read-set c = search rules
 
-mul-level : tie.Need-overflow-mul-level invariant-loop decreases-loop
+mul-level : tie.Need-offset_bounds-levels-last invariant-loop decreases-loop
 mul-level c = search rules
 
-array-read-level : tie.Need-array-read-level invariant-loop decreases-loop
+array-read-level : tie.Need-bounds-levels-last invariant-loop decreases-loop
 array-read-level c = search rules
 
 returns : tie.Need-returns invariant-loop decreases-loop
 returns c =
     let l = c.before.before in
     let s = l.before.before.before.before.before in
-    ⊎_elim (λ w. walk_ends (cs s) s.args.minute (t s) s.requires.some w.left l.loop.invariant.0 l.loop.invariant.1)
-    (λ w. walk-stops (cs s) s.args.minute (t s) l.loop.invariant.1 w.1.ensures w.4.ensures w.0.taken (not-true _ w.6.taken)) c.before.loop-test.branch
+    elim c.before.loop-i-test.branch [
+      | else-loop-i-test w ↦ walk_ends (cs s) s.args.minute (t s) s.requires.some w.loop-i-test.false l.loop-i.invariant.0 l.loop-i.invariant.1
+      | then-loop-i-test+then-not-x w ↦ walk-stops (cs s) s.args.minute (t s) l.loop-i.invariant.1 w.step_at-s.ensures w.judge_step-x.ensures w.loop-i-test.true (not-true _ w.if-not-x.true)
+    ]
 
-pub walk-spec : {M : Type 1} → statement M
-walk-spec =
+pub walk_spec : {M : Type 1} → statement M
+walk_spec =
     tie.close
     (tie.spec
     invariant-loop
