@@ -6,20 +6,17 @@ use borrow.Author.Rules.{rules}
 use Rattle.file_sentences.proofs.file_line.Statement.{statement}
 use Rattle.file_sentences.proofs.file_line.Tie as tie
 
-said-requires : tie.Need-said-requires
+said-requires : tie.Need-said-s-requires
 said-requires c κs = search rules
 
-slice-aggregate-put-sentence : tie.Need-slice-aggregate-put-sentence
-slice-aggregate-put-sentence c = search rules
-
-put-sentence-requires : tie.Need-put-sentence-requires
+put-sentence-requires : tie.Need-put_sentence-requires
 unfolding file_words
 put-sentence-requires c κs = words-fit
 
 returns : tie.Need-returns
 unfolding file_sentence file_words
-returns c = rw c.before.before.before.said.ensures at c.put-sentence.ensures
+returns c = rw c.before.before.before.before.said-s.ensures at c.put_sentence.ensures
 
-pub file-line-spec : {M : Type 1} → statement M
-file-line-spec =
-    tie.close (tie.spec said-requires slice-aggregate-put-sentence put-sentence-requires returns)
+pub file_line_spec : {M : Type 1} → statement M
+file_line_spec =
+    tie.close (tie.spec said-requires put-sentence-requires returns)

@@ -13,10 +13,10 @@ short-requires c κs = search rules
 limits-requires : tie.Need-limits-requires
 limits-requires c κs = search rules
 
-wrong-length-requires : tie.Need-wrong-length-requires
+wrong-length-requires : tie.Need-wrong_length-requires
 wrong-length-requires c κs = search rules
 
-field-at-requires : tie.Need-field-at-requires
+field-at-requires : tie.Need-field_at-requires
 field-at-requires c κs = search rules
 
 range-requires : tie.Need-range-requires
@@ -31,56 +31,56 @@ period-requires c κs = search rules
 serial-requires : tie.Need-serial-requires
 serial-requires c κs = search rules
 
-returns : tie.Need-returns
+returns : tie.Need-returns-in-1
 unfolding file_text
-returns c = rw c.before.match.keys1 c.short.ensures
+returns c = rw c.before.in-1.is c.short.ensures
 
-returns-2 : tie.Need-returns-2
+returns-2 : tie.Need-returns-in-2
 unfolding file_text
-returns-2 c = rw c.before.match.keys2 c.limits.ensures
+returns-2 c = rw c.before.in-2.is c.limits.ensures
 
-returns-3 : tie.Need-returns-3
+returns-3 : tie.Need-returns-in-3
 unfolding file_text
-returns-3 c = rw c.before.match.keys3 c.wrong-length.ensures
+returns-3 c = rw c.before.in-3.is c.wrong_length.ensures
 
-returns-4 : tie.Need-returns-4
+returns-4 : tie.Need-returns-in-4
 unfolding file_text
-returns-4 c = rw (c.before.match.keys4, sym c.field_at.ensures) (kind-line _ _)
+returns-4 c = rw (c.before.in-4.is, sym c.field_at.ensures) (kind-line _ _)
 
-returns-5 : tie.Need-returns-5
+returns-5 : tie.Need-returns-in-5
 unfolding file_text
-returns-5 c = rw c.before.match.keys5 c.range.ensures
+returns-5 c = rw c.before.in-5.is c.range.ensures
 
-returns-6 : tie.Need-returns-6
+returns-6 : tie.Need-returns-in-6
 unfolding file_text
-returns-6 c = rw c.before.match.keys6 c.unused.ensures
+returns-6 c = rw c.before.in-6.is c.unused.ensures
 
-returns-7 : tie.Need-returns-7
+returns-7 : tie.Need-returns-in-7
 unfolding file_text
-returns-7 c = rw c.before.match.keys7 c.period.ensures
+returns-7 c = rw c.before.in-7.is c.period.ensures
 
-returns-8 : tie.Need-returns-8
+returns-8 : tie.Need-returns-in-8
 unfolding file_text
-returns-8 c = rw c.match.keys8 ends-line
+returns-8 c = rw c.in-8.is ends-line
 
-returns-9 : tie.Need-returns-9
+returns-9 : tie.Need-returns-in-10
 unfolding file_text
-returns-9 c = rw c.match.keys9 memberships-line
+returns-9 c = rw c.in-10.is memberships-line
 
-returns-10 : tie.Need-returns-10
+returns-10 : tie.Need-returns-in-17
 unfolding file_text
-returns-10 c = rw c.before.match.keys10 c.serial.ensures
+returns-10 c = rw c.before.in-17.is c.serial.ensures
 
-returns-11 : tie.Need-returns-11
+returns-11 : tie.Need-returns-in_default
 unfolding file_text
 returns-11 c =
-    let no = c.match.rest in
+    let no = c.in_default.in_default-own.rest in
     let n = c.before.before.args.number in
     rw (ne_eqb n 1 no.0.0.0.0.0.0.0.0.0.1, ne_eqb n 2 no.0.0.0.0.0.0.0.0.1, ne_eqb n 3 no.0.0.0.0.0.0.0.1, ne_eqb n 4 no.0.0.0.0.0.0.1, ne_eqb n 5 no.0.0.0.0.0.1, ne_eqb n 6 no.0.0.0.0.1, ne_eqb n 7 no.0.0.0.1, ne_eqb n 8 no.0.0.1, ne_eqb n 10 no.0.1, ne_eqb n 17 no.1)
     refused-line
 
-pub said-spec : {M : Type 1} → statement M
-said-spec =
+pub said_spec : {M : Type 1} → statement M
+said_spec =
     tie.close
     (tie.spec
     short-requires

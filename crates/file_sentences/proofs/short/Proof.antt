@@ -5,14 +5,14 @@ use borrow.Author.Rules.{rules}
 use Rattle.file_sentences.proofs.short.Statement.{statement}
 use Rattle.file_sentences.proofs.short.Tie as tie
 
-returns : tie.Need-returns
-returns c = rw (lt-ltb _ _ c.if1.true) short-long-line
+returns : tie.Need-returns-then-n-gt5126
+returns c = rw (lt-ltb _ _ c.if-n-gt5126.true) short-long-line
 
-cast-t5 : tie.Need-overflow-cast-t5
+cast-t5 : tie.Need-overflow_cast-result
 cast-t5 c = search rules
 
-returns-2 : tie.Need-returns-2
-returns-2 c = rw (le-ltb _ _ c.if1.false) (short-line _)
+returns-2 : tie.Need-returns
+returns-2 c = rw (le-ltb _ _ c.if-n-gt5126.false) (short-line _)
 
-pub short-spec : {M : Type 1} → statement M
-short-spec = tie.close (tie.spec returns cast-t5 returns-2)
+pub short_spec : {M : Type 1} → statement M
+short_spec = tie.close (tie.spec returns cast-t5 returns-2)

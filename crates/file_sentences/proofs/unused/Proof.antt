@@ -5,17 +5,17 @@ use borrow.Author.Rules.{rules}
 use Rattle.file_sentences.proofs.unused.Statement.{statement}
 use Rattle.file_sentences.proofs.unused.Tie as tie
 
-stray-byte-requires : tie.Need-stray-byte-requires
+stray-byte-requires : tie.Need-stray_byte-j-requires
 stray-byte-requires c κs = search rules
 
-field-at-requires : tie.Need-field-at-requires
+field-at-requires : tie.Need-field_at-requires
 field-at-requires c κs = search rules
 
-field-at-requires-2 : tie.Need-field-at-requires-2
+field-at-requires-2 : tie.Need-field_at-requires-2
 field-at-requires-2 c κs = search rules
 
 returns : tie.Need-returns
-returns c = rw (sym c.before.before.stray-byte.ensures, sym c.before.field_at.ensures, sym c.field-at2.ensures) (unused-line _ _ _ _)
+returns c = rw (sym c.before.before.stray_byte-j.ensures, sym c.before.field_at.ensures, sym c.field_at-2.ensures) (unused-line _ _ _ _)
 
 pub unused_spec : {M : Type 1} → statement M
 unused_spec =
