@@ -16,6 +16,7 @@ ghost use Rattle.withdrawals.specs.Source.{◌without◌};
 use carrying::Carried;
 
 // Completes the table.
+#[tactic(auto, using(crate::proofs::Unfit::table_unfit))]
 pub fn rtt_complete(
     file: &[u8],
     withdrawals: &[u8],
@@ -34,6 +35,7 @@ pub fn rtt_complete(
 }
 
 // Hands out a proof of the membership at the minute.
+#[tactic(auto, using(crate::proofs::Unfit::query_unfit))]
 pub fn rtt_query(
     file: &[u8],
     withdrawals: &[u8],
@@ -66,6 +68,7 @@ pub fn rtt_query(
 }
 
 // Checks the first `steps` steps as a proof of the membership at the minute.
+#[tactic(auto, using(crate::proofs::Unfit::steps_unfit))]
 pub fn rtt_check(
     file: &[u8],
     withdrawals: &[u8],
