@@ -9,34 +9,34 @@ use Rattle.finding.proofs.level_of.Lts as lts
 use Rattle.finding.proofs.later.Reads as later-reads
 use Rattle.store.proofs.wide.Reads as wide-reads
 
-abbrev invariant-loop : tie.invariant-loop
+abbrev invariant-loop : tie.invariant-loop-at
 invariant-loop notes x level₀ at₀ level at = Down notes x level at
 
-abbrev decreases-loop : tie.decreases-loop
+abbrev decreases-loop : tie.decreases-loop-at
 decreases-loop notes x level₀ at₀ level at = at
 
 -- src/lib.rt:183:18
-add_at : tie.Need-overflow-add-at invariant-loop decreases-loop
+add_at : tie.Need-overflow_add-at invariant-loop decreases-loop
 add_at c = search rules
 
 -- src/lib.rt:184:5
-loop-holds : tie.Need-loop-init invariant-loop decreases-loop
+loop-holds : tie.Need-loop-at-init invariant-loop decreases-loop
 loop-holds c = down-start c.args.notes.now c.args.x
 
 -- src/lib.rt:185:9
-add-level : tie.Need-overflow-add-level invariant-loop decreases-loop
-add-level c = omega (arith, c.before.loop.invariant.0, c.before.before.requires.0)
+add-level : tie.Need-overflow_add-level invariant-loop decreases-loop
+add-level c = omega (arith, c.before.loop-at.invariant.0, c.before.before.requires.0)
 
 -- src/lib.rt:186:38
-add_wide : tie.Need-overflow-add-wide invariant-loop decreases-loop
+add_wide : tie.Need-overflow_add-at-in-loop-at invariant-loop decreases-loop
 add_wide c = search rules
 
 -- src/lib.rt:186:32
-mul_wide : tie.Need-overflow-mul-wide invariant-loop decreases-loop
+mul_wide : tie.Need-offset_bounds-notes-at invariant-loop decreases-loop
 mul_wide c = search rules
 
 -- src/lib.rt:186:32
-element-copy-out-wide : tie.Need-element-copy-out-wide invariant-loop decreases-loop
+element-copy-out-wide : tie.Need-bounds-notes-at invariant-loop decreases-loop
 element-copy-out-wide c = search rules
 
 -- src/lib.rt:186:20
@@ -44,41 +44,41 @@ wide-requires : tie.Need-wide-requires invariant-loop decreases-loop
 wide-requires c κs = search rules
 
 -- src/lib.rt:186:69
-add-wide-2 : tie.Need-overflow-add-wide-2 invariant-loop decreases-loop
+add-wide-2 : tie.Need-overflow_add-at-in-loop-at-2 invariant-loop decreases-loop
 add-wide-2 c = search rules
 
 -- src/lib.rt:186:63
-mul-wide-2 : tie.Need-overflow-mul-wide-2 invariant-loop decreases-loop
+mul-wide-2 : tie.Need-offset_bounds-notes-at-in-loop-at invariant-loop decreases-loop
 mul-wide-2 c = search rules
 
 -- src/lib.rt:186:63
-element-copy-out-wide-2 : tie.Need-element-copy-out-wide-2 invariant-loop decreases-loop
+element-copy-out-wide-2 : tie.Need-bounds-notes-at-in-loop-at invariant-loop decreases-loop
 element-copy-out-wide-2 c = search rules
 
 -- src/lib.rt:186:51
-wide-requires-2 : tie.Need-wide-requires-2 invariant-loop decreases-loop
+wide-requires-2 : tie.Need-wide-requires-in-loop-at invariant-loop decreases-loop
 wide-requires-2 c κs = search rules
 
 -- src/lib.rt:186:9
-later-requires : tie.Need-later-requires invariant-loop decreases-loop
+later-requires : tie.Need-later-at-requires invariant-loop decreases-loop
 later-requires c κs = search rules
 
 -- src/lib.rt:184:5
-loop-less : tie.Need-loop-smaller invariant-loop decreases-loop
-loop-less c = let r = c.before.before.before.before.before.before.before.requires.1.1 in
-    down-less c.before.before.before.before.before.before.before.args.notes.now c.before.before.before.before.before.before.before.args.x r.0 r.1 r.2 c.before.before.before.before.before.before.before.requires.1.0 c.before.before.before.before.before.before.loop.level c.before.before.before.before.before.before.loop.at c.before.before.before.before.before.before.loop.invariant c.before.before.before.before.before.loop-test.true c.before.before.before.wide.ensures.0 c.before.wide2.ensures.0 c.later.ensures
+loop-less : tie.Need-loop-at-smaller invariant-loop decreases-loop
+loop-less c = let r = c.before.before.before.before.before.before.before.before.requires.1.1 in
+    down-less c.before.before.before.before.before.before.before.before.args.notes.now c.before.before.before.before.before.before.before.before.args.x r.0 r.1 r.2 c.before.before.before.before.before.before.before.before.requires.1.0 c.before.before.before.before.before.before.before.loop-at.level c.before.before.before.before.before.before.before.loop-at.at c.before.before.before.before.before.before.before.loop-at.invariant c.before.before.before.before.before.before.loop-at-test.true c.before.before.before.wide.ensures.0 c.before.wide-in-loop-at.ensures.0 c.later-at.ensures
 
 -- src/lib.rt:184:5
-loop-again : tie.Need-loop-preserved invariant-loop decreases-loop
-loop-again c = let r = c.before.before.before.before.before.before.before.requires.1.1 in
-    down-next c.before.before.before.before.before.before.before.args.notes.now c.before.before.before.before.before.before.before.args.x r.0 r.1 r.2 c.before.before.before.before.before.before.before.requires.1.0 c.before.before.before.before.before.before.loop.level c.before.before.before.before.before.before.loop.at c.before.before.before.before.before.before.loop.invariant c.before.before.before.before.before.loop-test.true c.before.before.before.wide.ensures.0 c.before.wide2.ensures.0 c.later.ensures
+loop-again : tie.Need-loop-at-preserved invariant-loop decreases-loop
+loop-again c = let r = c.before.before.before.before.before.before.before.before.requires.1.1 in
+    down-next c.before.before.before.before.before.before.before.before.args.notes.now c.before.before.before.before.before.before.before.before.args.x r.0 r.1 r.2 c.before.before.before.before.before.before.before.before.requires.1.0 c.before.before.before.before.before.before.before.loop-at.level c.before.before.before.before.before.before.before.loop-at.at c.before.before.before.before.before.before.before.loop-at.invariant c.before.before.before.before.before.before.loop-at-test.true c.before.before.before.wide.ensures.0 c.before.wide-in-loop-at.ensures.0 c.later-at.ensures
 
 -- src/lib.rt:178:1
 returns : tie.Need-returns invariant-loop decreases-loop
-returns c = down-end c.before.before.args.notes.now c.before.before.args.x c.before.loop.level c.before.loop.at c.loop-test.false c.before.loop.invariant
+returns c = down-end c.before.before.args.notes.now c.before.before.args.x c.before.loop-at.level c.before.loop-at.at c.loop-at-test.false c.before.loop-at.invariant
 
-pub level-of-spec : {M : Type 1} → statement M
-level-of-spec =
+pub level_of_spec : {M : Type 1} → statement M
+level_of_spec =
     tie.close
     (tie.spec
     invariant-loop

@@ -16,29 +16,29 @@ use Rattle.policy.proofs.room.Reads as room-reads
 use Rattle.searching.proofs.load.Reads as load-reads
 
 -- src/lib.rt:133:22
-room-requires : tie.Need-room-requires
+room-requires : tie.Need-room-policy-requires
 room-requires c κs = search rules
 
 -- src/lib.rt:134:9
-judge-requires : tie.Need-judge-requires
+judge-requires : tie.Need-judge-j-requires
 judge-requires c κs = search rules
 
 -- src/lib.rt:147:9
-returns : tie.Need-returns
-returns c = λ t z. record { refusal = (c.before.before.judge.ensures t z).refusal; loaded = λ o. absurd (c.if1.true o) }
+returns : tie.Need-returns-then-j-ne0
+returns c = λ t z. record { refusal = (c.before.before.judge-j.ensures t z).refusal; loaded = λ o. absurd (c.if-j-ne0.true o) }
 
 -- src/lib.rt:153:9
-load-requires : tie.Need-load-requires
+load-requires : tie.Need-load-count-requires
 load-requires c κs = let a = c.before.before.before.before.before.before.before.before.before.before.before.before.before.before.before.before.args in
     let t = some a.q.credential a.q.first a.q.second a.q.sets in
     let z = some-sized a.q.credential a.q.first a.q.second a.q.sets in
-    let j = c.before.before.before.before.before.before.before.before.before.before.before.judge.ensures t z in
-    let k = askable (a.file.now without a.withdrawals.now) (request a.q.role a.q.set a.q.minute) t (record { number = c.before.before.before.before.before.before.before.before.before.before.before.judge.result.number; place = c.before.before.before.before.before.before.before.before.before.before.before.judge.result.place }) j.refusal c.before.before.before.before.before.before.before.before.before.if1.false in
-    ((j.policy c.before.before.before.before.before.before.before.before.before.if1.false).decoded, (c.before.before.before.before.before.before.before.before.before.before.before.before.before.before.before.before.requires.0, (c.before.before.before.before.before.before.before.before.before.before.before.before.before.before.before.before.requires.1, subst (λ (x : ℕ). x ≤ 1024) z.credential (size_few k))))
+    let j = c.before.before.before.before.before.before.before.before.before.before.before.judge-j.ensures t z in
+    let k = askable (a.file.now without a.withdrawals.now) (request a.q.role a.q.set a.q.minute) t (record { number = c.before.before.before.before.before.before.before.before.before.before.before.judge-j.result.number; place = c.before.before.before.before.before.before.before.before.before.before.before.judge-j.result.place }) j.refusal c.before.before.before.before.before.before.before.before.before.if-j-ne0.false in
+    ((j.policy c.before.before.before.before.before.before.before.before.before.if-j-ne0.false).decoded, (c.before.before.before.before.before.before.before.before.before.before.before.before.before.before.before.before.requires.0, (c.before.before.before.before.before.before.before.before.before.before.before.before.before.before.before.before.requires.1, subst (λ (x : ℕ). x ≤ 1024) z.credential (size_few k))))
 
 -- src/lib.rt:117:1
-returns-2 : tie.Need-returns-2
-returns-2 c = λ t z. record { refusal = (c.before.before.before.before.before.before.before.before.before.before.before.before.judge.ensures t z).refusal; loaded = λ o. loaded-as ((c.before.before.before.before.before.before.before.before.before.before.before.before.judge.ensures t z).policy o).means (sym z.credential) c.load.ensures }
+returns-2 : tie.Need-returns
+returns-2 c = λ t z. record { refusal = (c.before.before.before.before.before.before.before.before.before.before.before.before.judge-j.ensures t z).refusal; loaded = λ o. loaded-as ((c.before.before.before.before.before.before.before.before.before.before.before.before.judge-j.ensures t z).policy o).means (sym z.credential) c.load-count.ensures }
 
-pub prepare-spec : {M : Type 1} → statement M
-prepare-spec = tie.close (tie.spec room-requires judge-requires returns load-requires returns-2)
+pub prepare_spec : {M : Type 1} → statement M
+prepare_spec = tie.close (tie.spec room-requires judge-requires returns load-requires returns-2)
