@@ -17,51 +17,51 @@ use Rattle.codec.proofs.put.Reads as put_reads
 use Rattle.query_bytes.proofs.clear_tail.Reads as clear-tail-reads
 use Rattle.store.proofs.wide.Reads as wide-reads
 
-abbrev invariant-loop : tie.invariant-loop
+abbrev invariant-loop : tie.invariant-loop-i
 invariant-loop list₀ notes column count n i₀ list i = Encoded 4 count (map (λ (j : ℕ). word notes j column) (below count)) list₀ i list
 
-abbrev decreases-loop : tie.decreases-loop
+abbrev decreases-loop : tie.decreases-loop-i
 decreases-loop list₀ notes column count n i₀ list i = count - i
 
 -- src/lib.rt:93:5
-loop-holds : tie.Need-loop-init invariant-loop decreases-loop
+loop-holds : tie.Need-loop-i-init invariant-loop decreases-loop
 loop-holds c = encode-none 4 c.before.args.count (map (λ (j : ℕ). word c.before.args.notes.now j c.before.args.column) (below c.before.args.count)) c.before.args.list.now
 
 -- src/lib.rt:94:18
-mul_at : tie.Need-overflow-mul-at invariant-loop decreases-loop
-mul_at c = omega (arith, c.loop-test.true, c.before.before.before.requires)
+mul_at : tie.Need-overflow_mul-at invariant-loop decreases-loop
+mul_at c = omega (arith, c.loop-i-test.true, c.before.before.before.requires)
 
 -- src/lib.rt:96:27
-add-put : tie.Need-overflow-add-put invariant-loop decreases-loop
-add-put c = omega (arith, c.loop-test.true, c.before.before.before.requires)
+add-put : tie.Need-overflow_add-at invariant-loop decreases-loop
+add-put c = omega (arith, c.loop-i-test.true, c.before.before.before.requires)
 
 -- src/lib.rt:96:13
-sub-put : tie.Need-overflow-sub-put invariant-loop decreases-loop
+sub-put : tie.Need-slice_bounds-put-count invariant-loop decreases-loop
 sub-put c = search rules
 
 -- src/lib.rt:96:13
-part-put-start : tie.Need-slice-bounds-put-start invariant-loop decreases-loop
+part-put-start : tie.Need-slice_bounds-put-start invariant-loop decreases-loop
 part-put-start c = search rules
 
 -- src/lib.rt:96:13
-part-put-end : tie.Need-slice-bounds-put-end invariant-loop decreases-loop
-part-put-end c = omega (arith, c.loop-test.true, c.before.before.before.requires, c.before.loop.invariant.long)
+part-put-end : tie.Need-slice_bounds-put-end invariant-loop decreases-loop
+part-put-end c = omega (arith, c.loop-i-test.true, c.before.before.before.requires, c.before.loop-i.invariant.long)
 
 -- src/lib.rt:97:31
-mul_wide : tie.Need-overflow-mul-wide invariant-loop decreases-loop
+mul_wide : tie.Need-overflow_mul-column invariant-loop decreases-loop
 mul_wide c = omega (arith, c.before.before.before.before.requires.3)
 
 -- src/lib.rt:97:31
-add_wide : tie.Need-overflow-add-wide invariant-loop decreases-loop
-add_wide c = omega (arith, c.before.before.before.before.requires, c.before.loop-test.true)
+add_wide : tie.Need-overflow_add-column invariant-loop decreases-loop
+add_wide c = omega (arith, c.before.before.before.before.requires, c.before.loop-i-test.true)
 
 -- src/lib.rt:97:25
-mul-wide-2 : tie.Need-overflow-mul-wide-2 invariant-loop decreases-loop
-mul-wide-2 c = omega (arith, c.before.before.before.before.requires, c.before.loop-test.true)
+mul-wide-2 : tie.Need-offset_bounds-notes-column invariant-loop decreases-loop
+mul-wide-2 c = omega (arith, c.before.before.before.before.requires, c.before.loop-i-test.true)
 
 -- src/lib.rt:97:25
-element-copy-out-wide : tie.Need-element-copy-out-wide invariant-loop decreases-loop
-element-copy-out-wide c = omega (arith, c.before.before.before.before.requires, c.before.loop-test.true)
+element-copy-out-wide : tie.Need-bounds-notes-column invariant-loop decreases-loop
+element-copy-out-wide c = omega (arith, c.before.before.before.before.before.requires, c.before.before.loop-i-test.true)
 
 -- src/lib.rt:97:13
 wide-requires : tie.Need-wide-requires invariant-loop decreases-loop
@@ -72,40 +72,40 @@ put-requires : tie.Need-put-requires invariant-loop decreases-loop
 put-requires c κs = search rules
 
 -- src/lib.rt:99:9
-add-i : tie.Need-overflow-add-i invariant-loop decreases-loop
-add-i c = omega (arith, c.before.before.before.before.before.before.before.before.before.requires, c.before.before.before.before.before.before.loop-test.true)
+add-i : tie.Need-overflow_add-i invariant-loop decreases-loop
+add-i c = omega (arith, c.before.before.before.before.before.before.before.before.before.before.requires, c.before.before.before.before.before.before.before.loop-i-test.true)
 
 -- src/lib.rt:93:5
-loop-less : tie.Need-loop-smaller invariant-loop decreases-loop
-loop-less c = omega (arith, c.before.before.before.before.before.before.loop-test.true)
+loop-less : tie.Need-loop-i-smaller invariant-loop decreases-loop
+loop-less c = omega (arith, c.before.before.before.before.before.before.before.loop-i-test.true)
 
 -- src/lib.rt:93:5
-loop-again : tie.Need-loop-preserved invariant-loop decreases-loop
-loop-again c = let a = c.before.before.before.before.before.before.before.before.before.args in
+loop-again : tie.Need-loop-i-preserved invariant-loop decreases-loop
+loop-again c = let a = c.before.before.before.before.before.before.before.before.before.before.args in
     let f : ℕ → ℕ = λ j. word a.notes.now j a.column in
-    let l = c.before.before.before.before.before.before.loop-test.true in
-    encode-more 4 a.count (map f (below a.count)) a.list.now c.before.before.before.before.before.before.before.loop.i c.before.before.before.before.before.before.before.loop.invariant l (omega (arith, map-below-length f a.count)) (omega (arith, c.before.before.before.before.before.before.before.before.before.requires, l)) {t = c.before.before.put.new.0} c.before.before.put.auto.0 (rw (← value-at f a.count c.before.before.before.before.before.before.before.loop.i l c.before.before.before.wide.ensures.0) c.before.before.put.ensures)
+    let l = c.before.before.before.before.before.before.before.loop-i-test.true in
+    encode-more 4 a.count (map f (below a.count)) a.list.now c.before.before.before.before.before.before.before.before.loop-i.i c.before.before.before.before.before.before.before.before.loop-i.invariant l (omega (arith, map-below-length f a.count)) (omega (arith, c.before.before.before.before.before.before.before.before.before.before.requires, l)) {t = c.before.before.put.new.dst} c.before.before.put.auto.dst (rw (← value-at f a.count c.before.before.before.before.before.before.before.before.loop-i.i l c.before.before.before.wide.ensures.0) c.before.before.put.ensures)
 
 -- src/lib.rt:101:22
-mul-clear-tail : tie.Need-overflow-mul-clear-tail invariant-loop decreases-loop
+mul-clear-tail : tie.Need-overflow_mul-count invariant-loop decreases-loop
 mul-clear-tail c = omega (arith, c.before.before.before.before.requires)
 
 -- src/lib.rt:101:5
-clear-tail-requires : tie.Need-clear-tail-requires invariant-loop decreases-loop
-clear-tail-requires c κs = omega (arith, c.before.before.before.before.requires, c.before.before.loop.invariant.long)
+clear-tail-requires : tie.Need-clear_tail-requires invariant-loop decreases-loop
+clear-tail-requires c κs = omega (arith, c.before.before.before.before.requires, c.before.before.loop-i.invariant.long)
 
 -- src/lib.rt:88:1
-same_length : tie.Need-same-length invariant-loop decreases-loop
-same_length c = c.before.before.clear-tail.auto.0 ∙ c.before.before.before.before.before.loop.invariant.long
+same_length : tie.Need-shape_of-list invariant-loop decreases-loop
+same_length c = search rules
 
 -- src/lib.rt:88:1
 returns : tie.Need-returns invariant-loop decreases-loop
 returns c = let a = c.before.before.before.before.before.before.before.args in
     let f : ℕ → ℕ = λ j. word a.notes.now j a.column in
-    column-bytes f a.count a.n a.list.now c.before.before.before.before.before.loop.list c.before.before.clear-tail.new.0 c.before.before.before.before.before.before.before.requires.0 c.before.before.before.before.before.before.before.requires.1 c.before.before.before.before.before.loop.invariant.long (encode-all 4 a.count (map f (below a.count)) a.list.now c.before.before.before.before.before.loop.i c.before.before.before.before.before.loop.invariant c.before.before.before.before.loop-test.false) c.before.before.clear-tail.ensures
+    column-bytes f a.count a.n a.list.now c.before.before.before.before.before.loop-i.list c.before.before.clear_tail.new.list c.before.before.before.before.before.before.before.requires.0 c.before.before.before.before.before.before.before.requires.1 c.before.before.before.before.before.loop-i.invariant.long (encode-all 4 a.count (map f (below a.count)) a.list.now c.before.before.before.before.before.loop-i.i c.before.before.before.before.before.loop-i.invariant c.before.before.before.before.loop-i-test.false) c.before.before.clear_tail.ensures
 
-pub put-words-spec : {M : Type 1} → statement M
-put-words-spec =
+pub put_words_spec : {M : Type 1} → statement M
+put_words_spec =
     tie.close
     (tie.spec
     invariant-loop

@@ -12,46 +12,46 @@ use Rattle.query_bytes.proofs.put_sets.Reads as put-sets-reads
 use Rattle.query_bytes.proofs.put_words.Reads as put-words-reads
 
 -- src/lib.rt:81:5
-put-words-requires : tie.Need-put-words-requires
+put-words-requires : tie.Need-put_words-requires
 put-words-requires c κs = (c.before.before.before.before.before.requires.0.credential, c.before.before.before.before.before.requires.1, c.before.before.before.before.before.requires.0.few, omega arith)
 
 -- src/lib.rt:82:5
-put-words-requires-2 : tie.Need-put-words-requires-2
+put-words-requires-2 : tie.Need-put_words-requires-2
 put-words-requires-2 c κs = (c.before.before.before.before.before.before.before.before.before.requires.0.first, c.before.before.before.before.before.before.before.before.before.requires.1, c.before.before.before.before.before.before.before.before.before.requires.0.few, omega arith)
 
 -- src/lib.rt:83:5
-put-words-requires-3 : tie.Need-put-words-requires-3
+put-words-requires-3 : tie.Need-put_words-requires-3
 put-words-requires-3 c κs = (c.before.before.before.before.before.before.before.before.before.before.before.before.before.requires.0.second, c.before.before.before.before.before.before.before.before.before.before.before.before.before.requires.1, c.before.before.before.before.before.before.before.before.before.before.before.before.before.requires.0.few, omega arith)
 
 -- src/lib.rt:84:5
-put-sets-requires : tie.Need-put-sets-requires
+put-sets-requires : tie.Need-put_sets-requires
 put-sets-requires c κs = (c.before.before.before.before.before.before.before.before.before.before.before.before.before.before.before.before.before.requires.0.sets, c.before.before.before.before.before.before.before.before.before.before.before.before.before.before.before.before.before.requires.1, c.before.before.before.before.before.before.before.before.before.before.before.before.before.before.before.before.before.requires.0.few)
 
 -- src/lib.rt:68:1
-same_length : tie.Need-same-length
+same_length : tie.Need-shape_of-credential
 same_length c = search rules
 
 -- src/lib.rt:68:1
-same-length-2 : tie.Need-same-length-2
+same-length-2 : tie.Need-shape_of-first
 same-length-2 c = search rules
 
 -- src/lib.rt:68:1
-same-length-3 : tie.Need-same-length-3
+same-length-3 : tie.Need-shape_of-second
 same-length-3 c = search rules
 
 -- src/lib.rt:68:1
-same-length-4 : tie.Need-same-length-4
+same-length-4 : tie.Need-shape_of-sets
 same-length-4 c = search rules
 
 -- src/lib.rt:68:1
 returns : tie.Need-returns
 returns c = let a = c.before.before.before.before.before.before.before.before.before.before.before.before.before.before.before.before.before.before.before.before.args in (
-  c.before.before.before.before.before.before.before.before.before.before.before.before.before.before.put-words.ensures ∙ ap (bytes_of 4) (column-words a.keys.now a.notes.now a.count (λ s. s.credential) a.n refl),
+  c.before.before.before.before.before.before.before.before.before.before.before.before.before.before.put_words.ensures ∙ ap (bytes_of 4) (column-words a.keys.now a.notes.now a.count (λ s. s.credential) a.n refl),
   (
-    c.before.before.before.before.before.before.before.before.before.before.put-words2.ensures ∙ ap (bytes_of 4) (column-words a.keys.now a.notes.now a.count (λ s. s.first) a.n refl),
+    c.before.before.before.before.before.before.before.before.before.before.put_words-2.ensures ∙ ap (bytes_of 4) (column-words a.keys.now a.notes.now a.count (λ s. s.first) a.n refl),
     (
-      c.before.before.before.before.before.before.put-words3.ensures ∙ ap (bytes_of 4) (column-words a.keys.now a.notes.now a.count (λ s. s.second) a.n refl),
-      c.before.before.put-sets.ensures ∙ ap (bytes_of 4) (column-words a.keys.now a.notes.now a.count (λ s. s.set) a.n refl),
+      c.before.before.before.before.before.before.put_words-3.ensures ∙ ap (bytes_of 4) (column-words a.keys.now a.notes.now a.count (λ s. s.second) a.n refl),
+      c.before.before.put_sets.ensures ∙ ap (bytes_of 4) (column-words a.keys.now a.notes.now a.count (λ s. s.set) a.n refl),
     ),
   ),
 )
