@@ -15,7 +15,7 @@ use Rattle.querying.proofs.proof.Reads as proof-reads
 use Rattle.querying.proofs.refused.Reads as refused-reads
 
 -- src/lib.rt:77:9
-find-requires : tie.Need-find-requires
+find-requires : tie.Need-find-found-requires
 find-requires c κs = search rules
 
 -- src/lib.rt:91:9
@@ -23,35 +23,35 @@ refused-requires : tie.Need-refused-requires
 refused-requires c κs = search rules
 
 -- src/lib.rt:91:9
-returns : tie.Need-returns
+returns : tie.Need-returns-then-found-ne0
 returns c = λ t z.
     let a = c.before.before.before.before.before.before.before.before.args in
-    proves-refused (a.file.now without a.withdrawals.now) (request a.role a.set a.minute) t (c.before.before.before.find.ensures t z) c.before.if1.true c.refused.ensures
+    proves-refused (a.file.now without a.withdrawals.now) (request a.role a.set a.minute) t (c.before.before.before.find-found.ensures t z) c.before.if-found-ne0.true c.refused.ensures
 
 -- src/lib.rt:93:9
-keep-requires : tie.Need-keep-requires
+keep-requires : tie.Need-keep-count-requires
 keep-requires c κs = let a = c.before.before.before.before.before.before.before.before.before.args in
-    let s = (c.before.before.before.before.find.ensures (some a.credential a.first a.second a.sets) (some-sized a.credential a.first a.second a.sets)).shows c.before.before.if1.false in
+    let s = (c.before.before.before.before.find-found.ensures (some a.credential a.first a.second a.sets) (some-sized a.credential a.first a.second a.sets)).shows c.before.before.if-found-ne0.false in
     (s.room.0, s.room.1, s.low.1, citing s.derivation)
 
 -- src/lib.rt:94:11
-cast-proof : tie.Need-overflow-cast-proof
+cast-proof : tie.Need-overflow_cast-count
 cast-proof c = let a = c.before.before.before.before.before.before.before.before.before.before.args in
-    let s = (c.before.before.before.before.before.find.ensures (some a.credential a.first a.second a.sets) (some-sized a.credential a.first a.second a.sets)).shows c.before.before.before.if1.false in
-    omega (arith, c.keep.ensures.few, s.low.1)
+    let s = (c.before.before.before.before.before.find-found.ensures (some a.credential a.first a.second a.sets) (some-sized a.credential a.first a.second a.sets)).shows c.before.before.before.if-found-ne0.false in
+    omega (arith, c.keep-count.ensures.few, s.low.1)
 
 -- src/lib.rt:94:5
 proof-requires : tie.Need-proof-requires
 proof-requires c κs = search rules
 
 -- src/lib.rt:61:1
-returns-2 : tie.Need-returns-2
+returns-2 : tie.Need-returns
 returns-2 c = λ t z.
     let a = c.before.before.before.before.before.before.before.before.before.before.before.args in
-    proves-proof (a.file.now without a.withdrawals.now) (request a.role a.set a.minute) t (c.before.before.before.before.before.before.find.ensures t z) c.before.before.before.before.if1.false c.before.before.before.before.before.before.before.before.before.before.before.ranges.set.fits c.before.keep.ensures c.proof.ensures
+    proves-proof (a.file.now without a.withdrawals.now) (request a.role a.set a.minute) t (c.before.before.before.before.before.before.find-found.ensures t z) c.before.before.before.before.if-found-ne0.false c.before.before.before.before.before.before.before.before.before.before.before.ranges.set.fits c.before.keep-count.ensures c.proof.ensures
 
-pub prove-spec : {M : Type 1} → statement M
-prove-spec =
+pub prove_spec : {M : Type 1} → statement M
+prove_spec =
     tie.close
     (tie.spec
     find-requires

@@ -17,65 +17,65 @@ use Rattle.store.proofs.room_for_keys.Reads as room-for-keys-reads
 use Rattle.store.proofs.room_for_notes.Reads as room-for-notes-reads
 
 -- src/lib.rt:30:20
-room-for-keys-requires : tie.Need-room-for-keys-requires
+room-for-keys-requires : tie.Need-room_for_keys-keys-requires
 room-for-keys-requires c κs = search rules
 
 -- src/lib.rt:31:21
-room-for-notes-requires : tie.Need-room-for-notes-requires
+room-for-notes-requires : tie.Need-room_for_notes-notes-requires
 room-for-notes-requires c κs = search rules
 
 -- src/lib.rt:32:9
-prove-requires : tie.Need-prove-requires
+prove-requires : tie.Need-prove-answer-requires
 prove-requires c κs = search rules
 
 -- src/lib.rt:45:9
-lists-written-requires : tie.Need-lists-written-requires
+lists-written-requires : tie.Need-lists_written-requires
 lists-written-requires c κs = search rules
 
 -- src/lib.rt:46:9
-returns : tie.Need-returns
+returns : tie.Need-returns-then-not-lists_written
 returns c = let a = c.before.before.before.before.before.before.before.before.before.before.before.before.before.args in
     let t = step_lists a.credential.now a.first.now a.second.now a.sets.now in
-    let p = c.before.before.prove.ensures t (record { credential = refl; first = refl; second = refl; sets = refl }) in
-    queried-kept (a.file.now without a.withdrawals.now) (request a.role a.set a.minute) t p (sym c.before.lists-written.ensures ∙ not-true _ c.if1.true)
+    let p = c.before.before.prove-answer.ensures t (record { credential = refl; first = refl; second = refl; sets = refl }) in
+    queried-kept (a.file.now without a.withdrawals.now) (request a.role a.set a.minute) t p (sym c.before.lists_written.ensures ∙ not-true _ c.if-not-lists_written.true-raw)
 
 -- src/lib.rt:55:9
-steps-of-requires : tie.Need-steps-of-requires
+steps-of-requires : tie.Need-steps_of-requires
 steps-of-requires c κs = search rules
 
 -- src/lib.rt:48:5
 write-requires : tie.Need-write-requires
 write-requires c κs = let a = c.before.before.before.before.before.before.before.before.before.before.before.before.before.before.before.before.before.before.before.before.args in
     let t = step_lists a.credential.now a.first.now a.second.now a.sets.now in
-    let p = c.before.before.before.before.before.before.before.before.before.prove.ensures t (record { credential = refl; first = refl; second = refl; sets = refl }) in
+    let p = c.before.before.before.before.before.before.before.before.before.prove-answer.ensures t (record { credential = refl; first = refl; second = refl; sets = refl }) in
     steps-fit (a.file.now without a.withdrawals.now) (request a.role a.set a.minute) t p c.steps_of.ensures
 
 -- src/lib.rt:17:1
-same_length : tie.Need-same-length
+same_length : tie.Need-shape_of-credential
 same_length c = search rules
 
 -- src/lib.rt:17:1
-same-length-2 : tie.Need-same-length-2
+same-length-2 : tie.Need-shape_of-first
 same-length-2 c = search rules
 
 -- src/lib.rt:17:1
-same-length-3 : tie.Need-same-length-3
+same-length-3 : tie.Need-shape_of-second
 same-length-3 c = search rules
 
 -- src/lib.rt:17:1
-same-length-4 : tie.Need-same-length-4
+same-length-4 : tie.Need-shape_of-sets
 same-length-4 c = search rules
 
 -- src/lib.rt:17:1
-returns-2 : tie.Need-returns-2
+returns-2 : tie.Need-returns
 returns-2 c = let a = c.before.before.before.before.before.before.before.before.before.before.before.before.before.before.before.before.before.before.before.before.before.before.before.before.before.before.before.before.before.args in
     let t = step_lists a.credential.now a.first.now a.second.now a.sets.now in
-    let p = c.before.before.before.before.before.before.before.before.before.before.before.before.before.before.before.before.before.before.prove.ensures t (record { credential = refl; first = refl; second = refl; sets = refl }) in
+    let p = c.before.before.before.before.before.before.before.before.before.before.before.before.before.before.before.before.before.before.prove-answer.ensures t (record { credential = refl; first = refl; second = refl; sets = refl }) in
     let w = c.before.before.before.before.before.before.before.before.write.ensures in
-    queried-written (a.file.now without a.withdrawals.now) (request a.role a.set a.minute) t p (sym c.before.before.before.before.before.before.before.before.before.before.before.before.before.before.before.before.before.lists-written.ensures ∙ not-false _ c.before.before.before.before.before.before.before.before.before.before.before.before.before.before.before.before.if1.false) c.before.before.before.before.before.before.before.before.before.steps_of.ensures w.0 w.1.0 w.1.1.0 w.1.1.1
+    queried-written (a.file.now without a.withdrawals.now) (request a.role a.set a.minute) t p (sym c.before.before.before.before.before.before.before.before.before.before.before.before.before.before.before.before.before.lists_written.ensures ∙ not-false _ c.before.before.before.before.before.before.before.before.before.before.before.before.before.before.before.before.if-not-lists_written.false-raw) c.before.before.before.before.before.before.before.before.before.steps_of.ensures w.0 w.1.0 w.1.1.0 w.1.1.1
 
-pub query-spec : {M : Type 1} → statement M
-query-spec =
+pub query_spec : {M : Type 1} → statement M
+query_spec =
     tie.close
     (tie.spec
     room-for-keys-requires
