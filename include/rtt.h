@@ -169,13 +169,13 @@ extern "C" {
 
 /* The version of this interface; the pkg-config file and the manual pages take it from here. The number is
    major * 10,000 + minor * 100 + patch. */
-#define RTT_VERSION "4.1.0"
-#define RTT_VERSION_NUMBER 40100
+#define RTT_VERSION "4.1.1"
+#define RTT_VERSION_NUMBER 40101
 
 /* Bytes of stack that are enough for any call, beside what the caller itself uses. Measured, no call takes more than
 
      rtt_complete   78,000 bytes
-     rtt_query      57,000 bytes
+     rtt_query      59,000 bytes
      rtt_check      30,000 bytes
      rtt_ends        5,000 bytes
      rtt_intervals   5,000 bytes
@@ -191,14 +191,15 @@ extern "C" {
        at the minute or not, and which have given     16,384
      credentials other than sets, by what they use    14,404
      sets that wait to be given to several roles         776
-     frames                                              749
+     marks, while a proof is kept                      2,050
+     frames                                              739
 
    and while the file is judged, in the room of what comes later, 4,096 for its credentials. A level is in none of them: it is
    counted when the membership is found. */
 #define RTT_STACK 81920
 
 /* Bytes of stack that are enough for rtt_query, for a server that runs many queries at a time. */
-#define RTT_QUERY_STACK 57000
+#define RTT_QUERY_STACK 59000
 
 /* The bytes of the longest file. A longer one is refused, also where only RTT_FILE_BYTES + 1 bytes of it were read. */
 #define RTT_FILE_BYTES 5126
