@@ -124,15 +124,12 @@ module _ (notes : List ℕ) (x i : ℕ) (marks : List ℕ) (g : Marked notes x (
       go false e = left (ltb-false 0 (get_or marks i 0) e)
 
 -- as the code has it: the turn before i; one word after the other
-pub marked_turn : (notes : List ℕ) (x i : ℕ) (marks marks' : List ℕ) → Citing notes (suc x) → x < 1024 → 0 < i → i ≤ suc x → Marked notes x i marks → marks' ≡ spread_by notes (i - 1) marks → Marked notes x (i - 1) marks'
+pub marked_turn : (notes : List ℕ) (x i : ℕ) (marks marks' : List ℕ) → Citing notes (suc x) → x < 1024 → 0 < i → i ≤ x + 1 → Marked notes x i marks → marks' ≡ spread_by notes (i - 1) marks → Marked notes x (i - 1) marks'
 marked_turn notes x i marks marks' before small some h g e =
     let back : suc (i - 1) ≡ i = omega arith in
     let cites = before (i - 1) (omega arith) in
     subst⁻¹ (Marked notes x (i - 1)) e
     (spread-marked notes x (i - 1) marks (subst⁻¹ (λ (j : ℕ). Marked notes x j marks) back g) (omega arith) cites.0 cites.1)
-
-pub marked_all : {notes : List ℕ} {x i : ℕ} {marks : List ℕ} → i ≤ 0 → Marked notes x i marks → Marked notes x 0 marks
-marked_all {notes} {x} {i} {marks} h g = let e : i ≡ 0 = omega arith in subst (λ (j : ℕ). Marked notes x j marks) e g
 
 -- ---- marks in a list whose place 0 is for words that cite nothing
 
@@ -191,7 +188,7 @@ first-mark n notes x e h =
         go (inl e) = e
         go (inr ne) = absurd (let z : 0 < 0 = subst (λ (y : ℕ). 0 < y) (get_or-set_other {A = ℕ} (replicate n 0) x j 1 0 ne ∙ zeros-at n j) m in omega arith)
 
-pub one-marked : (n : ℕ) (notes : List ℕ) (x : ℕ) → n ≡ 1024 → x < n → Marked notes x (suc x) (drop 1 (set (replicate (suc n) 0) (x + 1) 1))
+pub one-marked : (n : ℕ) (notes : List ℕ) (x : ℕ) → n ≡ 1024 → x < n → Marked notes x (x + 1) (drop 1 (set (replicate (suc n) 0) (x + 1) 1))
 one-marked n notes x e h =
-    subst⁻¹ (λ (w : ℕ). Marked notes x (suc x) (drop 1 (set (replicate (suc n) 0) w 1))) (add-one x)
+    subst⁻¹ (λ (w : ℕ). Marked notes x w (drop 1 (set (replicate (suc n) 0) w 1))) (add-one x)
     (subst⁻¹ (Marked notes x (suc x)) (shifted-mark (replicate (suc n) 0) (suc x) ∙ mark_set (replicate n 0) x) (first-mark n notes x e h))

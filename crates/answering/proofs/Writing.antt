@@ -1,35 +1,24 @@
 -- Writing a column of the steps: the loop at place i, and the list at the end.
 use mathlib.Core.Path.{◌≡◌, refl, sym, ap, ◌∙◌}
 use mathlib.Core.List.{List, [], ◌∷◌, ◌++◌, map}
-use Prim.Native.Nat.{ℕ, ◌+◌, ◌-◌, ◌≤◌, ◌<◌}
+use Prim.Native.Nat.{ℕ, ◌+◌, ◌-◌, ◌<◌}
 use native.Mathlib.Numerals.{add-one}
-use native.Mathlib.Omega.{arith}
-use lib.ListN.{length, set, take, replicate, length-set}
+use lib.ListN.{length, set, take, replicate}
 use lib.Seq.{take-suc-set}
 use Rattle.meaning.specs.Lists.{below}
 use Rattle.meaning.specs.Proofs.{Step}
 use Rattle.derivation.specs.HandedOut.{words}
 use Rattle.derivation.proofs.Positions.{map-below-next, map-below-length}
-use Rattle.answering.specs.Steps.{step_at, steps_in, up_to}
+use Rattle.answering.specs.Steps.{step_at, steps_in}
 
 -- ---- the first i places of a list have the values of f
 
-abbrev pub Filled : (ℕ → ℕ) → List ℕ → List ℕ → ℕ → Type 0
-Filled f l₀ l i = (length l ≡ length l₀) × (take i l ≡ map f (below i))
+abbrev pub Filled : (ℕ → ℕ) → List ℕ → ℕ → Type 0
+Filled f l i = take i l ≡ map f (below i)
 
-pub filled_none : (f : ℕ → ℕ) (l : List ℕ) → Filled f l l 0
-filled_none f l = (refl, refl)
-
-pub filled_more : (f : ℕ → ℕ) (l₀ l : List ℕ) (i v : ℕ) → i < length l → v ≡ f i → Filled f l₀ l i → Filled f l₀ (set l i v) (i + 1)
-filled_more f l₀ l i v h e (a, b) = (
-  length-set l i v ∙ a,
-  ap (λ (n : ℕ). take n (set l i v)) (add-one i) ∙ take-suc-set l i v h ∙ (λ u. b u ++ e u ∷ []) ∙ sym (map-below-next f i) ∙ ap (λ (n : ℕ). map f (below n)) (sym (add-one i)),
-)
-
-pub filled-all : (f : ℕ → ℕ) (l₀ l l' : List ℕ) (i count : ℕ) → count ≤ i → i ≤ count → Filled f l₀ l i → l' ≡ up_to count l → l' ≡ map f (below count) ++ replicate (length l₀ - count) 0
-filled-all f l₀ l l' i count h k (a, b) e =
-    let q : i ≡ count = omega arith in
-    e ∙ (λ u. (ap (λ (n : ℕ). take n l) (sym q) ∙ b ∙ ap (λ (n : ℕ). map f (below n)) q) u ++ replicate (a u - count) 0)
+pub filled_more : (f : ℕ → ℕ) (l : List ℕ) (i v : ℕ) → i < length l → v ≡ f i → Filled f l i → Filled f (set l i v) (i + 1)
+filled_more f l i v h e b =
+    ap (λ (n : ℕ). take n (set l i v)) (add-one i) ∙ take-suc-set l i v h ∙ (λ u. b u ++ e u ∷ []) ∙ sym (map-below-next f i) ∙ ap (λ (n : ℕ). map f (below n)) (sym (add-one i))
 
 -- ---- as the words of the steps
 

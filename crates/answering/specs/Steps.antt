@@ -1,5 +1,5 @@
 -- The marked entries as proof steps: their numbers, their words, and the lists that hold them.
-use Rattle.std.specs.Prelude.{List, [], ◌∷◌, ◌++◌, map, ℕ, zero, suc, ◌-◌, ltb, length, get_or, take, replicate}
+use Rattle.std.specs.Prelude.{List, [], ◌∷◌, ◌++◌, map, ℕ, zero, suc, ◌-◌, ltb, length, get_or}
 use Rattle.meaning.specs.Lists.{if, only, below}
 use Rattle.meaning.specs.Proofs.{Step}
 use Rattle.store.specs.Entries.{set_in}
@@ -34,7 +34,3 @@ step_at keys notes i = record { credential = word notes i 0; first = word notes 
 -- the first n places as steps
 unfoldable pub steps_in : List ℕ → List ℕ → ℕ → List Step
 steps_in keys notes n = map (step_at keys notes) (below n)
-
--- the first k places of a list, and zeros after them
-abbrev pub up_to : ℕ → List ℕ → List ℕ
-up_to k l = take k l ++ replicate (length l - k) 0

@@ -21,11 +21,7 @@ fn count_in(bytes: usize, size: usize) -> usize
     if bytes < 6 {
         return 0;
     }
-    let n = (bytes - 6) / size;
-    if 256 < n {
-        return 256;
-    }
-    n
+    ((bytes - 6) / size).min(256)
 }
 
 fn write_result<O: Print, E: Print>(out: &O, err: &E, list: &[u8]) {
@@ -36,15 +32,11 @@ fn write_result<O: Print, E: Print>(out: &O, err: &E, list: &[u8]) {
 
 // What stands before a sentence on standard error: `refused`, number, place.
 fn start_line<E: Print>(err: &E, number: u32, place: u32) {
-    let mut line = [0u8; 128];
-    let n = lines::refused_start(&mut line, number, place);
-    console::write_error(err, &line, n);
+    console::write_error(err, &lines::refused_start(number, place));
 }
 
 fn explain<E: Print>(err: &E, file: &[u8], number: u32, place: u32) {
-    let mut line = [0u8; 256];
-    let n = carry_sentences::carry_line(&mut line, file, number, place);
-    console::write_sentence(err, &line, n);
+    console::write_error(err, &carry_sentences::carry_line(file, number, place));
 }
 
 // The sentences of a new file's 1, 2 and 8 are so of an old one too.

@@ -1,9 +1,8 @@
-// What a refusal of bringing a file forward or back means, as a line of text in a buffer of 256 bytes: 3 to 7 of an old file, and 19 of a new one. It takes
+// What a refusal of bringing a file forward or back means, as a line of text of at most 256 bytes: 3 to 7 of an old file, and 19 of a new one. It takes
 // any bytes and numbers; what it says is so where a call gave that refusal for them.
 #![tactic(auto)]
 
 ghost use Rattle.std.specs.Prelude.{◌≡◌};
-ghost use Rattle.text.specs.Lines.{LinedIn};
 ghost use Rattle.old_file.specs.OldFormat.{old_field};
 ghost use Rattle.sentences.specs.Filling.{sentence};
 ghost use Rattle.file_sentences.specs.FileSentences.{of_credential};
@@ -11,14 +10,14 @@ ghost use Rattle.carry_sentences.specs.CarryWords.{carry_words};
 ghost use Rattle.carry_sentences.specs.CarrySentences.{old_length_text, old_range_text, old_period_text, place_text, carry_text, carry_sentence};
 
 use sentences::Sentence;
+use text::Text;
 
-// The line of a refusal. Returns how many bytes it has, and leaves the bytes after it as they were.
-pub fn carry_line(out: &mut [u8; 256], file: &[u8], number: u32, place: u32) -> usize
-    ensures { LinedIn 256 out.old out.new result (carry_sentence file.now number place) }
+// The line of a refusal.
+pub fn carry_line(file: &[u8], number: u32, place: u32) -> Text<256>
+    ensures { result ≡ carry_sentence file.now number place }
 {
     let s = said(file, number, place);
-    sentences::put_sentence(
-        out,
+    sentences::filled_line(
         b"refused\n\
         the file has # {byte|bytes}, an old file of # {credential|credentials} takes #\n\
         the file has more than 5126 bytes, an old file of # {credential|credentials} takes #\n\

@@ -14,7 +14,7 @@ pub fn of_one_length(roles: usize, sets: usize, spans: usize) -> bool
 pub fn clear(roles: &mut [u32], sets: &mut [u32], spans: &mut [u64])
     ensures { (roles.new ≡ replicate (length roles.old) 0) × ((sets.new ≡ replicate (length sets.old) 0) × (spans.new ≡ replicate (length spans.old) 0)) }
 {
-    writing::clear32(roles);
-    writing::clear32(sets);
-    writing::clear64(spans);
+    roles.fill(0);
+    sets.fill(0);
+    spans.fill(0);
 }

@@ -54,18 +54,18 @@ fn finish(
     ends: &[u32; 64],
     count: usize,
 ) -> Completed
-    requires fact_1 { Loadable policy.now credentials ends.now count (length roles.old) }
-    requires fact_2 { (length sets.old ≡ length roles.old) × (length spans.old ≡ length roles.old) }
+    requires loadable { Loadable policy.now credentials ends.now count (length roles.old) }
+    requires lengths { (length sets.old ≡ length roles.old) × (length spans.old ≡ length roles.old) }
     ensures { table_ending (says_completed result) roles.new sets.new spans.new ≡ last_ending (credentials_of policy.now credentials) (lent roles.old sets.old spans.old) }
 {
-    let r = tabling::write_table(roles, sets, spans, policy, credentials, ends, count);
-    let size = roles.len();
-    if size < r {
-        columns::clear(roles, sets, spans);
-        return Completed::Refused {
-            number: 10,
-            place: 0,
-        };
+    match tabling::write_table(roles, sets, spans, policy, credentials, ends, count) {
+        Ok(n) => Completed::Memberships(n as u32),
+        Err(_) => {
+            columns::clear(roles, sets, spans);
+            Completed::Refused {
+                number: 10,
+                place: 0,
+            }
+        }
     }
-    Completed::Memberships(r as u32)
 }

@@ -7,6 +7,7 @@ ghost use Rattle.file_sentences.specs.FileSentences.{longest};
 use std::env::{Env, FillError};
 use std::io;
 use std::io::{Cursor, Read, Write};
+use text::Text;
 
 // One byte more than the longest valid file, so that a longer input is refused as one.
 pub fn room() -> [u8; 5127]
@@ -70,11 +71,9 @@ pub fn numbers64() -> [u64; 1024]
     [0; 1024]
 }
 
-// Writes the first n bytes of a line to standard output, and says whether it could; standard error says where it could not.
-pub fn write_line<O: Print, E: Print>(out: &O, err: &E, line: &[u8; 128], n: usize) -> bool
-    requires { n ≤ 128 }
-{
-    match write(out, line, n) {
+// Writes a line to standard output, and says whether it could; standard error says where it could not.
+pub fn write_line<O: Print, E: Print, const N: usize>(out: &O, err: &E, line: &Text<N>) -> bool {
+    match out.write_all(line.as_bytes()) {
         Ok(()) => true,
         Err(why) => {
             fail(err, b"standard output cannot be written", why);
@@ -83,46 +82,29 @@ pub fn write_line<O: Print, E: Print>(out: &O, err: &E, line: &[u8; 128], n: usi
     }
 }
 
-// Writes the first n bytes of a line to standard error.
-pub fn write_error<E: Print>(err: &E, line: &[u8; 128], n: usize)
-    requires { n ≤ 128 }
-{
-    let _ = write(err, line, n);
-}
-
-// Writes the first n bytes of a sentence to standard error.
-pub fn write_sentence<E: Print>(err: &E, line: &[u8; 256], n: usize)
-    requires { n ≤ 256 }
-{
-    let _ = write(err, line, n);
+// Writes a line to standard error.
+pub fn write_error<E: Print, const N: usize>(err: &E, line: &Text<N>) {
+    let _ = err.write_all(line.as_bytes());
 }
 
 // Writes a line of one number, and says whether it could.
 pub fn print_number<O: Print, E: Print>(out: &O, err: &E, x: u32) -> bool {
-    let mut line = [0u8; 128];
-    let n = lines::number_line(&mut line, x);
-    write_line(out, err, &line, n)
+    write_line(out, err, &lines::number_line(x))
 }
 
 // Writes a line of two numbers, and says whether it could.
 pub fn print_pair<O: Print, E: Print>(out: &O, err: &E, x: u32, y: u32) -> bool {
-    let mut line = [0u8; 128];
-    let n = lines::pair_line(&mut line, x, y);
-    write_line(out, err, &line, n)
+    write_line(out, err, &lines::pair_line(x, y))
 }
 
 // Writes a line of `refused`, number, place.
 pub fn print_refusal<O: Print, E: Print>(out: &O, err: &E, number: u32, place: u32) {
-    let mut line = [0u8; 128];
-    let n = lines::refused_line(&mut line, number, place);
-    write_line(out, err, &line, n);
+    write_line(out, err, &lines::refused_line(number, place));
 }
 
 // Says to standard error what a refusal of a file means.
 pub fn explain<E: Print>(err: &E, file: &[u8], number: u32, place: u32) {
-    let mut line = [0u8; 256];
-    let n = file_sentences::file_line(&mut line, file, number, place);
-    write_sentence(err, &line, n);
+    write_error(err, &file_sentences::file_line(file, number, place));
 }
 
 // Whether the program has an argument of this number. Number 0 is its own name.
@@ -170,13 +152,6 @@ fn reason(text: &[u8]) -> &[u8] {
         },
         Err(_) => text,
     }
-}
-
-// Writes the first n of some bytes.
-fn write<W: Print>(to: &W, bytes: &[u8], n: usize) -> io::Result<()>
-    requires { n ≤ length bytes.now }
-{
-    to.write_all(&bytes[..n])
 }
 
 // Reads once to the places from n on: how many bytes came, none at the end of the input or where the read failed.

@@ -11,18 +11,14 @@ fn print_credential<O: Print, E: Print>(
     position: u32,
     c: file::Credential,
 ) -> bool {
-    let mut line = [0u8; 128];
-    let n = notation::credential_line(&mut line, position, c);
-    console::write_line(out, err, &line, n)
+    console::write_line(out, err, &notation::credential_line(position, c))
 }
 
 // Writes the credential at a position to standard error, if it can be read.
 fn list_credential<E: Print>(err: &E, file: &[u8], position: u32) {
     match reader::read_credential(file, position as usize) {
         Found::Credential(c) => {
-            let mut line = [0u8; 128];
-            let n = notation::credential_line(&mut line, position, c);
-            console::write_error(err, &line, n);
+            console::write_error(err, &notation::credential_line(position, c));
         }
         Found::End => {}
     }
@@ -30,13 +26,8 @@ fn list_credential<E: Print>(err: &E, file: &[u8], position: u32) {
 
 // A file has at most 256 credentials.
 fn list_before<E: Print>(err: &E, file: &[u8], place: u32) {
-    let mut i = 0;
-    while i < 256 {
-        if place <= i {
-            return;
-        }
+    for i in 0..place.min(256) {
         list_credential(err, file, i);
-        i += 1;
     }
 }
 
@@ -55,12 +46,10 @@ fn print_entry<O: Print, E: Print>(out: &O, err: &E, file: &[u8], position: u32)
 }
 
 fn print_credentials<O: Print, E: Print>(out: &O, err: &E, file: &[u8]) {
-    let mut i = 0;
-    while i < 256 {
+    for i in 0..256 {
         if !print_entry(out, err, file, i) {
             return;
         }
-        i += 1;
     }
 }
 

@@ -13,17 +13,10 @@ fn print_ends<O: Print, E: Print>(out: &O, err: &E, file: &[u8]) {
     if !console::print_number(out, err, e.count) {
         return;
     }
-    let list = e.ends;
-    let count = e.count as usize;
-    let mut i = 0;
-    while i < 64 {
-        if count <= i {
+    for x in e.ends.iter().take(e.count as usize) {
+        if !console::print_number(out, err, *x) {
             return;
         }
-        if !console::print_number(out, err, list[i]) {
-            return;
-        }
-        i += 1;
     }
 }
 

@@ -1,10 +1,9 @@
-// What a refusal of a file means, as a line of text in a buffer of 256 bytes. It takes any bytes and numbers; what it says is so where a call gave
+// What a refusal of a file means, as a line of text of at most 256 bytes. It takes any bytes and numbers; what it says is so where a call gave
 // that refusal for them, of 10 a call with lists of 1,024 entries.
 #![tactic(auto)]
 
 ghost use Rattle.std.specs.Prelude.{◌≡◌, not, eqb, leb};
 ghost use Rattle.meaning.specs.Lists.{if as lists_if};
-ghost use Rattle.text.specs.Lines.{LinedIn};
 ghost use Rattle.file.specs.Format.{field};
 ghost use Rattle.file.specs.Reading.{between, uses};
 ghost use Rattle.sentences.specs.Words.{first_of};
@@ -13,14 +12,14 @@ ghost use Rattle.file_sentences.specs.FileWords.{file_words};
 ghost use Rattle.file_sentences.specs.FileSentences.{short_text, limits_text, length_text, of_credential, range_text, unused_text, period_text, serial_text, file_text, file_sentence};
 
 use sentences::Sentence;
+use text::Text;
 
-// The line of a refusal of a file: 1 to 8 and 17, and 10 of its table. Returns how many bytes it has, and leaves the bytes after it as they were.
-pub fn file_line(out: &mut [u8; 256], file: &[u8], number: u32, place: u32) -> usize
-    ensures { LinedIn 256 out.old out.new result (file_sentence file.now number place) }
+// The line of a refusal of a file: 1 to 8 and 17, and 10 of its table.
+pub fn file_line(file: &[u8], number: u32, place: u32) -> Text<256>
+    ensures { result ≡ file_sentence file.now number place }
 {
     let s = said(file, number, place);
-    sentences::put_sentence(
-        out,
+    sentences::filled_line(
         b"refused\n\
         the file has # {byte|bytes}, fewer than 6\n\
         the file has more than 5126 bytes, fewer than 6\n\

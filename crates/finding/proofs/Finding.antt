@@ -1,28 +1,38 @@
 -- What the judging of a request, the search and the lookup come to: a refusal, or an entry.
 use mathlib.Core.Path.{◌≡◌, refl, sym, ap, ◌∙◌, subst⁻¹}
-use mathlib.Core.Bool.{Bool, false}
+use mathlib.Core.Bool.{Bool, true, false}
 use mathlib.Core.List.{List, ◌++◌}
-use Prim.Native.Nat.{ℕ, ◌^◌, ◌≤◌, ◌<◌}
+use Prim.Native.Nat.{ℕ, suc, ◌^◌, ◌≤◌, ◌<◌}
 use native.Mathlib.Omega.{arith}
 use borrow.Author.Tests.{lt-ltb, le-ltb, ne_eqb}
+use Rattle.std.specs.Prelude.{Result, Ok, Err}
+use Rattle.std.specs.Result.{is_err}
 use lib.Dec.{ltb}
 use lib.ListN.{length, get_or}
 use Rattle.meaning.specs.Lists.{if}
 use Rattle.meaning.specs.Credentials.{Credential, FitsAll}
 use Rattle.meaning.specs.Members.{member, members, least_level}
 use Rattle.file.specs.declared.Refusal.{Refusal}
-use Rattle.file.specs.Refusals.{RefusalRow, done, refused, first}
-use Rattle.file.specs.Values.{first_refusal}
+use Rattle.file.specs.Refusals.{done, refused, first}
 use Rattle.withdrawals.specs.Source.{Source, credentials}
 use Rattle.withdrawals.proofs.Claims.{within-format}
-use Rattle.asking.specs.Asking.{Request, StepLists, size, asking, Askable}
-use Rattle.asking.proofs.Asked.{asked-refused, asked-passed, askable, same-lengths, within-bits}
-use Rattle.store.specs.Entries.{key_of}
-use Rattle.store.specs.Notes.{level_of}
+use Rattle.asking.specs.Asking.{Request, StepLists, Sized, size, asking, Askable}
+use Rattle.asking.proofs.Asked.{asked-refused, askable-passes, askable, same-lengths, within-bits}
+use Rattle.store.specs.Entries.{key_of, Stored, Leading, LookedUp}
+use Rattle.store.specs.Notes.{level_of, Leveled}
+use Rattle.store.specs.Store.{reached}
+use Rattle.store.specs.declared.Store.{Store}
+use Rattle.store.specs.declared.Full.{Full}
+use Rattle.store.proofs.Searches.{leading}
+use Rattle.rules.specs.declared.UseLists.{UseLists}
+use Rattle.levels.specs.Levels.{Rising}
 use Rattle.derivation.specs.Derivation.{Derivation}
 use Rattle.searching.specs.Searching.{Searched}
+use Rattle.searching.specs.Stores.{LoadedIn, SearchedIn}
 use Rattle.finding.specs.declared.Found.{Found}
+use Rattle.finding.specs.declared.Prepared.{Prepared}
 use Rattle.finding.specs.Finding.{search_rows, Finds}
+use Rattle.finding.specs.Stores.{PreparesIn}
 use Rattle.finding.proofs.Entries.{members-few, entry_has, no-entry, entry-least}
 
 -- the first of the entries are derived too
@@ -37,47 +47,92 @@ role-below {f} {q} {t} a = omega (arith, ((within-bits f q.role q.set).0 a.withi
 pub size_few : {f : Source} {q : Request} {t : StepLists} → Askable f q t → size t ≤ 1024
 size_few {t = t} a = (same-lengths t a.lists).3
 
-module _ (f : Source) (q : Request) (t : StepLists) (r : Refusal) (e : r ≡ first_refusal (asking f q t)) where
-  abbrev rows : List RefusalRow
-  rows = search_rows (credentials f) q.minute q.role q.set (size t)
+-- ---- a refusal of the request
 
-  abbrev least : ℕ
-  least = least_level (credentials f) q.minute (member q.role q.set)
+pub request-refused : {f : Source} {q : Request} {t : StepLists} {s : Store} {u : UseLists} {p : Prepared} → PreparesIn f q t s u p → (p.number ≡ 0 → ⊥)
+    → {g : Found} → g ≡ record { number = p.number; place = p.place; entry = 0; level = 0 } → Finds f q t s.keys s.notes g
+request-refused {f} {q} {t} {s} {u} {p} d h o =
+    let r : Refusal = record { number = p.number; place = p.place } in
+    subst⁻¹ (Finds f q t s.keys s.notes) o
+    record {
+      reply = ap (λ (b : Bool). if b (done 0) (refused p.number p.place)) (ne_eqb p.number 0 h) ∙ sym (asked-refused f q t r d.refusal h (search_rows (credentials f) q.minute q.role q.set (size t)) (least_level (credentials f) q.minute (member q.role q.set)));
+      shows = λ z. absurd (h z);
+      asks = λ z. absurd (h z);
+    }
 
-  -- a refusal of the request
-  pub request-refused : (r.number ≡ 0 → ⊥) → {keys notes : List ℕ} {g : Found} → g ≡ record { number = r.number; place = r.place; entry = 0; level = 0 } → Finds f q t keys notes g
-  request-refused h {keys} {notes} o =
-      subst⁻¹ (Finds f q t keys notes) o
-      record {
-        reply = ap (λ (b : Bool). if b (done 0) (refused r.number r.place)) (ne_eqb r.number 0 h) ∙ sym (asked-refused f q t r e h rows least);
-        shows = λ z. absurd (h z);
-        asks = λ z. absurd (h z);
-      }
+-- ---- the search of a request that is not refused
 
-  module _ (z : r.number ≡ 0) {keys slots notes : List ℕ} {n : ℕ} (s : Searched (credentials f) q.minute (size t) keys slots notes n) where
-    fits : FitsAll (credentials f)
-    fits = within-format f (askable f q t r e z).accepted
+-- without room for more there are more than the limit, and otherwise no more
+over-limit : (limit n : ℕ) (r : Result Unit Full) → is_err r ≡ true → limit < reached limit n r
+over-limit limit n (Ok u) e = let k : false ≡ true = e in absurd cc
+over-limit limit n (Err x) e = omega arith
 
-    passed : first rows least ≡ first (asking f q t ++ rows) least
-    passed = sym (asked-passed f q t r e z rows least)
+within-limit : {cs : List Credential} {m limit : ℕ} {s : Store} (r : Result Unit Full) → is_err r ≡ false → SearchedIn cs m limit s r → Searched cs m limit s.keys s.slots s.notes s.count × (s.count ≤ limit)
+within-limit (Ok u) e h = (h.searched, h.within)
+within-limit (Err x) e h = let k : true ≡ false = e in absurd cc
+
+module _ {f : Source} {q : Request} {t : StepLists} {limit a b c : ℕ} (z : Sized t limit a b c) {s : Store} {u : UseLists} {p : Prepared} (d : PreparesIn f q t s u p) (n : p.number ≡ 0) where
+  pub asked : Askable f q t
+  asked = askable f q t (record { number = p.number; place = p.place }) d.refusal n
+
+  pub loaded : LoadedIn (credentials f) q.minute limit s u p.loaded
+  loaded = rw (← z.credential) (d.loaded n)
+
+  fits : FitsAll (credentials f)
+  fits = within-format f asked.accepted
+
+  passed : first (search_rows (credentials f) q.minute q.role q.set (size t)) (least_level (credentials f) q.minute (member q.role q.set))
+      ≡ first (asking f q t ++ search_rows (credentials f) q.minute q.role q.set (size t)) (least_level (credentials f) q.minute (member q.role q.set))
+  passed = sym (askable-passes f q t asked (search_rows (credentials f) q.minute q.role q.set (size t)) (least_level (credentials f) q.minute (member q.role q.set)))
+
+  module _ {s' : Store} {r : Result Unit Full} (h : (cs : List Credential) (m : ℕ) → LoadedIn cs m limit s u p.loaded → SearchedIn cs m limit s' r) where
+    found : SearchedIn (credentials f) q.minute (size t) s' r
+    found = rw z.credential (h (credentials f) q.minute loaded)
 
     -- 10
-    pub find-over : size t < n → {g : Found} → g ≡ record { number = 10; place = 0; entry = 0; level = 0 } → Finds f q t keys notes g
-    find-over h o = subst⁻¹ (Finds f q t keys notes) o record { reply = rw (lt-ltb (size t) (length (members (credentials f) q.minute)) (s.over h)) refl ∙ passed; shows = λ z. absurd (omega arith); asks = λ z. absurd (omega arith) }
+    pub find-over : is_err r ≡ true → {g : Found} → g ≡ record { number = 10; place = 0; entry = 0; level = 0 } → Finds f q t s'.keys s'.notes g
+    find-over e o = subst⁻¹ (Finds f q t s'.keys s'.notes) o record { reply = rw (lt-ltb (size t) (length (members (credentials f) q.minute)) (found.searched.over (over-limit (size t) s'.count r e))) refl ∙ passed; shows = λ z. absurd (omega arith); asks = λ z. absurd (omega arith) }
 
-    module _ (l : n ≤ size t) (small : q.set < 2 ^ 32) where
+    module _ (e : is_err r ≡ false) where
+      all : Searched (credentials f) q.minute (size t) s'.keys s'.slots s'.notes s'.count
+      all = (within-limit r e found).0
+
+      room : s'.count ≤ size t
+      room = (within-limit r e found).1
+
+      stored : (links : List ℕ) × Stored s'.keys s'.slots links s'.count
+      stored = all.stored room
+
       few : ltb (size t) (length (members (credentials f) q.minute)) ≡ false
-      few = le-ltb (size t) (length (members (credentials f) q.minute)) (omega (arith, members-few (credentials f) fits q.minute (size t) s l))
+      few = le-ltb (size t) (length (members (credentials f) q.minute)) (omega (arith, members-few (credentials f) fits q.minute (size t) all room, room))
 
-      -- 13
-      pub find_none : ((i : ℕ) → i < n → get_or keys i 0 ≡ key_of q.role q.set → ⊥) → {g : Found} → g ≡ record { number = 13; place = 0; entry = 0; level = 0 } → Finds f q t keys notes g
-      find_none h o = subst⁻¹ (Finds f q t keys notes) o record { reply = rw (few, no-entry (credentials f) fits q.minute (size t) s l q.role q.set small h) refl ∙ passed; shows = λ z. absurd (omega arith); asks = λ z. absurd (omega arith) }
+      pub leads : Leading s'.slots
+      leads = leading s'.keys s'.slots s'.count stored.1.searchable stored.1.few
 
-      -- an entry
-      pub find-entry : (x : ℕ) → (x < n) × (get_or keys x 0 ≡ key_of q.role q.set) → {level : ℕ} → level ≡ level_of notes x → Finds f q t keys notes (record { number = 0; place = 0; entry = x; level = level })
-      find-entry x at o =
-          record {
-            reply = ap done (o ∙ entry-least (credentials f) fits q.minute (size t) s l q.role q.set small x at.0 at.1) ∙ rw (few, entry_has (credentials f) fits q.minute (size t) s l q.role q.set small x at.0 at.1) refl ∙ passed;
-            shows = λ _. record { low = omega (arith, at.0, (s.stored l).1.few); room = ((s.stored l).1.room.0, s.room l); key = at.1; derivation = first-entries at.0 (s.derivation l); level = o };
-            asks = λ _. askable f q t r e z;
-          }
+      module _ {key : ℕ} (k : key ≡ key_of q.role q.set) where
+        -- 13
+        pub find_none : q.set < 2 ^ 32 → LookedUp s'.keys s'.slots key 0 → {g : Found} → g ≡ record { number = 13; place = 0; entry = 0; level = 0 } → Finds f q t s'.keys s'.notes g
+        find_none small l o =
+            let none : (i : ℕ) → i < s'.count → get_or s'.keys i 0 ≡ key_of q.role q.set → ⊥ = λ i h e. (l.entry s'.count stored.1.searchable).absent refl i h (e ∙ sym k) in
+            subst⁻¹ (Finds f q t s'.keys s'.notes) o
+            record { reply = rw (few, no-entry (credentials f) fits q.minute (size t) all room q.role q.set small none) refl ∙ passed; shows = λ z. absurd (omega arith); asks = λ z. absurd (omega arith) }
+
+        -- an entry
+        module _ {x : ℕ} (l : LookedUp s'.keys s'.slots key (suc x)) where
+          at : (x < s'.count) × (get_or s'.keys x 0 ≡ key)
+          at = (l.entry s'.count stored.1.searchable).present x refl
+
+          pub found-leveled : (i : ℕ) → i ≤ x → Leveled s'.notes i
+          found-leveled i h = all.leveled room i (omega (arith, at.0))
+
+          pub found-rising : (n : ℕ) × (x < n) × Rising s'.notes n
+          found-rising = (s'.count, at.0, all.rising room)
+
+          pub find-entry : q.set < 2 ^ 32 → {level : ℕ} → level ≡ level_of s'.notes x → Finds f q t s'.keys s'.notes (record { number = 0; place = 0; entry = x; level = level })
+          find-entry small o =
+              let e = at.1 ∙ k in
+              record {
+                reply = ap done (o ∙ entry-least (credentials f) fits q.minute (size t) all room q.role q.set small x at.0 e) ∙ rw (few, entry_has (credentials f) fits q.minute (size t) all room q.role q.set small x at.0 e) refl ∙ passed;
+                shows = λ _. record { low = omega (arith, at.0, room, stored.1.few); room = (stored.1.room.0, all.room room); key = e; derivation = first-entries at.0 (all.derivation room); level = o };
+                asks = λ _. asked;
+              }

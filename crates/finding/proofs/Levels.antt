@@ -42,22 +42,16 @@ down-start notes x =
     let l : level_by notes (x + 1) ≡ level_of notes x = level-by-cited notes (x + 1) (λ z. omega arith) ∙ (λ u. level_of notes (e u)) in
     (omega arith, omega arith)
 
-pub down-end : (notes : List ℕ) (x level at : ℕ) → at ≡ 0 → Down notes x level at → level ≡ level_of notes x
-down-end notes x level at z d = omega (arith, level-by-none notes at z, d.1)
-
-module _ (notes : List ℕ) (x n : ℕ) (low : x < n) (rising : Rising notes n) (all : (i : ℕ) → i ≤ x → Leveled notes i) (level at : ℕ) {first second next : ℕ} (d : Down notes x level at) (nz : at ≡ 0 → ⊥)
-    (e : first ≡ get_or notes (1023 + at) 0) (f : second ≡ get_or notes (2047 + at) 0) (g : next ≡ max first second) where
+module _ (notes : List ℕ) (x n : ℕ) (low : x < n) (rising : Rising notes n) (all : (i : ℕ) → i ≤ x → Leveled notes i) (level at : ℕ) {next : ℕ} (d : Down notes x level at) (nz : at ≡ 0 → ⊥)
+    (e : next ≡ max (get_or notes (1023 + at) 0) (get_or notes (2047 + at) 0)) where
   v : Leveled notes (at - 1)
   v = all (at - 1) (omega (arith, d.0))
 
-  is-first : first ≡ word notes (at - 1) 1
-  is-first = let p : 1023 + at ≡ 1024 + (at - 1) = omega arith in e ∙ (λ u. get_or notes (p u) 0)
-
-  is-second : second ≡ word notes (at - 1) 2
-  is-second = let p : 2047 + at ≡ 2048 + (at - 1) = omega arith in f ∙ (λ u. get_or notes (p u) 0)
-
   is-next : next ≡ max (word notes (at - 1) 1) (word notes (at - 1) 2)
-  is-next = g ∙ (λ u. max (is-first u) (is-second u))
+  is-next =
+      let p : 1023 + at ≡ 1024 + (at - 1) = omega arith in
+      let q : 2047 + at ≡ 2048 + (at - 1) = omega arith in
+      e ∙ (λ u. max (get_or notes (p u) 0) (get_or notes (q u) 0))
 
   pub down-less : next < at
   down-less = omega (arith, is-next, v.first, v.second)

@@ -4,20 +4,12 @@ use Rattle.meaning.specs.Lists.{if}
 use Rattle.meaning.specs.Credentials.{Credential}
 use Rattle.meaning.specs.Members.{member, has, members, least_level}
 use Rattle.file.specs.Refusals.{RefusalRow, Outcome, done, refused, first, ◌when◌}
-use Rattle.file.specs.Values.{first_refusal}
 use Rattle.withdrawals.specs.Source.{Source, credentials}
 use Rattle.asking.specs.Asking.{Request, StepLists, size, asking, Askable}
 use Rattle.store.specs.Entries.{key_of}
 use Rattle.store.specs.Notes.{level_of}
 use Rattle.derivation.specs.Derivation.{Derivation}
-use Rattle.searching.specs.Searching.{Loaded}
 use Rattle.finding.specs.declared.Found.{Found}
-use Rattle.finding.specs.declared.Prepared.{Prepared}
-
--- the first refusal of the request; where there is none, what is valid at the minute was loaded
-pub record Prepares (f : Source) (q : Request) (t : StepLists) (keys spans slots links notes codes valid lists : List ℕ) (r : Prepared) : Type 0 where
-  pub refusal : record { number = r.number; place = r.place } ≡ first_refusal (asking f q t)
-  pub loaded : r.number ≡ 0 → Loaded (credentials f) q.minute (size t) keys spans slots links notes codes valid lists r.count
 
 -- 10: more than L memberships at the minute; 13: this is none of them
 abbrev pub search_rows : List Credential → ℕ → ℕ → ℕ → ℕ → List RefusalRow

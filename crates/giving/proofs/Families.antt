@@ -1,5 +1,5 @@
 -- An entry gives by both its families, one after the other.
-use mathlib.Core.Path.{◌≡◌, ◌∙◌}
+use mathlib.Core.Path.{◌≡◌, ap, ◌∙◌}
 use mathlib.Core.Logic.{◌⊎◌, inl, inr}
 use mathlib.Core.List.{List}
 use Prim.Native.Nat.{ℕ, ◌+◌, ◌%◌, ◌≤◌, ◌<◌, zero-le}
@@ -11,7 +11,6 @@ use Rattle.rules.proofs.UseLaws.{first_body, use-family}
 use Rattle.heads.specs.Gaining.{Spanned, Origin, Kept, Gains}
 use Rattle.heads.proofs.Gaining.{gains-by, gains-none, gains-same, gains-over, gains-then}
 use Rattle.closure.specs.Closure.{Held}
-use Rattle.premises.specs.Combining.{InFamily}
 use Rattle.firing.specs.Firing.{Fires, FromFamily}
 use Rattle.firing.proofs.Firings.{fires-before, fires-after, from-family-before}
 use Rattle.giving.specs.Giving.{FiresBoth, FromEntry}
@@ -26,54 +25,25 @@ no-bodies {family} l kept few low q z =
     let w = first_body l family low in
     gains-none kept few (λ k s f. w.none f.listed.body (rw (← q, z) zero-le) f.listed.low.0 (use-family f.fitting f.listed ∙ f.here))
 
--- The families of an entry are its role and then links by its name. Where links are next, this is what the role gives; before, nothing.
-abbrev pub Earlier : List ℕ → List ℕ → List ℕ → List ℕ → List ℕ → ℕ → ℕ → ℕ → ℕ → Spanned
-Earlier codes valid lists keys done n e d family k s = (1024 ≤ family) × Fires codes valid lists keys done n e d (role_in (get_or keys e 0)) k s
+-- the role's family gave, or there was no room
+module _ {keys spans slots links notes done : List ℕ} {n : ℕ} (h : Held keys spans slots links notes done n) (e : ℕ) (low : e < n) {codes valid lists : List ℕ} {limit d role : ℕ} (own : role ≡ role_in (get_or keys e 0)) {keys' spans' slots' links' notes' : List ℕ} {r : ℕ} (g : Gains limit keys spans notes n (Fires codes valid lists keys done n e d role) (FromFamily codes lists keys done n e role) keys' spans' slots' links' notes' r) where
+  -- too many already
+  pub families-over : limit < r → Gains limit keys spans notes n (FiresBoth codes valid lists keys done n e d) (FromEntry codes lists keys done n e) keys' spans' slots' links' notes' r
+  families-over o = gains-over (λ k s w. inl (rw own at w)) o g
 
-module _ {keys spans slots links notes done : List ℕ} {n : ℕ} (h : Held keys spans slots links notes done n) (e : ℕ) (low : e < n) (codes valid lists : List ℕ) (d : ℕ) {limit family : ℕ} where
-  pub families-start : n ≤ limit → family ≡ role_in (get_or keys e 0) → Gains limit keys spans notes n (Earlier codes valid lists keys done n e d family) (FromEntry codes lists keys done n e) keys spans slots links notes n
-  families-start few q = gains-none h.kept few (λ k s w. let m = h.kept.stored.roles e low in omega (arith, w.0))
+  -- and links by its name
+  pub families-both : r ≤ limit → {keys'' spans'' slots'' links'' notes'' : List ℕ} {t : ℕ} → Gains limit keys' spans' notes' r (Fires codes valid lists keys' done r e d (1024 + role % 32)) (FromFamily codes lists keys' done r e (1024 + role % 32)) keys'' spans'' slots'' links'' notes'' t → Gains limit keys spans notes n (FiresBoth codes valid lists keys done n e d) (FromEntry codes lists keys done n e) keys'' spans'' slots'' links'' notes'' t
+  families-both m l =
+      gains-same to from
+      (gains-then (gains-by (λ k at first second w. (role, inl own, w)) g) m
+      (gains-by (λ k at first second w. (1024 + role % 32, inr (ap (λ (x : ℕ). 1024 + x % 32) own), from-family-before done (g.grown m) h.fresh e low k at first second w))
+      (gains-same (fires-before done (g.grown m) h.fresh e low codes valid lists d (1024 + role % 32)) (fires-after done (g.grown m) h.fresh e low codes valid lists d (1024 + role % 32)) l)))
+    where
+      Parts : Spanned
+      Parts k s = Fires codes valid lists keys done n e d role k s ⊎ Fires codes valid lists keys done n e d (1024 + role % 32) k s
 
-  module _ {keys' spans' slots' links' notes' : List ℕ} {r : ℕ} (g : Gains limit keys spans notes n (Earlier codes valid lists keys done n e d family) (FromEntry codes lists keys done n e) keys' spans' slots' links' notes' r) (m : r ≤ limit) (of : InFamily keys e family) {t : ℕ} {keys'' spans'' slots'' links'' notes'' : List ℕ} (l : Gains limit keys' spans' notes' r (Fires codes valid lists keys' done r e d family) (FromFamily codes lists keys' done r e family) keys'' spans'' slots'' links'' notes'' t) where
-    abbrev Here : Spanned
-    Here = Fires codes valid lists keys done n e d family
+      to : (k s : ℕ) → Parts k s → FiresBoth codes valid lists keys done n e d k s
+      to k s w = rw own at w
 
-    abbrev Both : Spanned
-    Both = FiresBoth codes valid lists keys done n e d
-
-    both : Gains limit keys spans notes n (λ k s. Earlier codes valid lists keys done n e d family k s ⊎ Here k s) (FromEntry codes lists keys done n e) keys'' spans'' slots'' links'' notes'' t
-    both =
-        gains-then g m
-        (gains-by (λ k at first second w. (family, of, from-family-before done (g.grown m) h.fresh e low k at first second w))
-        (gains-same (fires-before done (g.grown m) h.fresh e low codes valid lists d family) (fires-after done (g.grown m) h.fresh e low codes valid lists d family) l))
-
-    here : InFamily keys e family → (k s : ℕ) → Here k s → Both k s
-    here (inl q) k s w = inl (rw q at w)
-    here (inr q) k s w = inr (rw q at w)
-
-    to : (k s : ℕ) → Earlier codes valid lists keys done n e d family k s ⊎ Here k s → Both k s
-    to k s (inl w) = inl w.1
-    to k s (inr w) = here of k s w
-
-    -- too many already
-    pub families-over : limit < t → Gains limit keys spans notes n Both (FromEntry codes lists keys done n e) keys'' spans'' slots'' links'' notes'' t
-    families-over o = gains-over to o both
-
-    -- after the second family
-    pub families-end : family ≡ 1024 + role_in (get_or keys e 0) % 32 → Gains limit keys spans notes n Both (FromEntry codes lists keys done n e) keys'' spans'' slots'' links'' notes'' t
-    families-end q = gains-same to from both
-      where
-        from : (k s : ℕ) → Both k s → Earlier codes valid lists keys done n e d family k s ⊎ Here k s
-        from k s (inl w) = inl (omega arith, w)
-        from k s (inr w) = inr (rw q w)
-
-    -- after the first
-    pub families-next : {next : ℕ} → 1024 ≤ next → family ≡ role_in (get_or keys e 0) → Gains limit keys spans notes n (Earlier codes valid lists keys done n e d next) (FromEntry codes lists keys done n e) keys'' spans'' slots'' links'' notes'' t
-    families-next {next} o q = gains-same into from both
-      where
-        into : (k s : ℕ) → Earlier codes valid lists keys done n e d family k s ⊎ Here k s → Earlier codes valid lists keys done n e d next k s
-        into k s (inl w) = (o, w.1)
-        into k s (inr w) = (o, rw q at w)
-
-        from : (k s : ℕ) → Earlier codes valid lists keys done n e d next k s → Earlier codes valid lists keys done n e d family k s ⊎ Here k s
-        from k s w = inr (rw q w.1)
+      from : (k s : ℕ) → FiresBoth codes valid lists keys done n e d k s → Parts k s
+      from k s w = rw own w

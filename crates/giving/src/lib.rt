@@ -3,13 +3,18 @@
 
 ghost use Rattle.std.specs.Prelude.{◌≡◌, ◌<◌, ◌≤◌, get_or};
 ghost use Rattle.std.specs.Int.Bits.{bit_xor};
-ghost use Rattle.rules.specs.Uses.{Listed, Formed};
-ghost use Rattle.heads.specs.Gaining.{Gains};
-ghost use Rattle.closure.specs.Closure.{Held};
+ghost use Rattle.rules.specs.Lists.{ListedIn, FormedIn};
+ghost use Rattle.heads.specs.Stores.{Adds};
+ghost use Rattle.closure.specs.Stores.{HeldIn};
+ghost use Rattle.premises.specs.Combining.{InFamily};
 ghost use Rattle.premises.specs.Moves.{Firing};
-ghost use Rattle.giving.specs.Giving.{LastDone, FiresBoth, FromEntry, Gave};
+ghost use Rattle.firing.specs.Firing.{Fires, FromFamily};
+ghost use Rattle.giving.specs.Giving.{LastDone, FiresBoth, FromEntry};
+ghost use Rattle.giving.specs.Stores.{GaveIn};
 
 use premises::Turn;
+use rules::UseLists;
+use store::{Full, Store};
 
 // Entry e is to give. `last` says that no entry after it is done yet; false is always right. A new entry past the limit is not added.
 #[derive(Clone, Copy)]
@@ -21,27 +26,20 @@ pub struct Visit {
 
 // Entry e, whose spans are not all done, gives what its new spans give, which are then done.
 pub fn give(
-    keys: &mut [u64; 1024],
-    spans: &mut [u64; 1024],
-    slots: &mut [u16; 3072],
-    links: &mut [u16; 2048],
-    notes: &mut [u16; 3072],
+    store: &mut Store,
     done: &mut [u64; 1024],
-    codes: &[u32; 1024],
-    valid: &[u64; 512],
-    lists: &[u16; 3106],
-    n: usize,
+    uses: &UseLists,
     v: Visit,
-) -> usize
-    requires fact_1 { Held keys.old spans.old slots.old links.old notes.old done.old n }
-    requires fact_2 { (n ≤ v.limit) × (v.limit ≤ 1024) }
-    requires fact_3 { Listed codes.now valid.now lists.now × Formed codes.now lists.now }
-    requires fact_4 { (v.e < n) × (get_or done.old v.e 0 ≡ get_or spans.old v.e 0 → ⊥) }
-    requires fact_5 { LastDone done.old v }
-    ensures { Gave codes.now valid.now lists.now keys.old spans.old notes.old done.old n v keys.new spans.new slots.new links.new notes.new done.new result }
+) -> Result<(), Full>
+    requires held { HeldIn store.old done.old }
+    requires few { (store.old.count ≤ v.limit) × (v.limit ≤ 1024) }
+    requires listed { ListedIn uses.now × FormedIn uses.now }
+    requires entry { (v.e < store.old.count) × (get_or done.old v.e 0 ≡ get_or store.old.spans v.e 0 → ⊥) }
+    requires last { LastDone done.old v }
+    ensures { GaveIn uses.now store.old done.old v store.new done.new result }
 {
     let e = v.e;
-    let m = spans[e];
+    let m = store.spans[e];
     let d = not_done(m, done[e]);
     done[e] = m;
     let t = Turn {
@@ -50,51 +48,41 @@ pub fn give(
         last: v.last,
         spans: d,
     };
-    fire_both(
-        keys, spans, slots, links, notes, done, codes, valid, lists, n, t,
-    )
+    fire_both(store, uses, done, t)
 }
 
-// From entry e by every body of its role, then by every body for links by its name. A family without bodies is not gone through.
-fn fire_both(
-    keys: &mut [u64; 1024],
-    spans: &mut [u64; 1024],
-    slots: &mut [u16; 3072],
-    links: &mut [u16; 2048],
-    notes: &mut [u16; 3072],
-    done: &[u64; 1024],
-    codes: &[u32; 1024],
-    valid: &[u64; 512],
-    lists: &[u16; 3106],
-    n: usize,
-    t: Turn,
-) -> usize
-    requires fact_1 { Held keys.old spans.old slots.old links.old notes.old done.now n }
-    requires fact_2 { (n ≤ t.limit) × (t.limit ≤ 1024) }
-    requires fact_3 { Listed codes.now valid.now lists.now × Formed codes.now lists.now }
-    requires fact_4 { Firing done.now n t }
-    ensures { Gains t.limit keys.old spans.old notes.old n (FiresBoth codes.now valid.now lists.now keys.old done.now n t.e t.spans) (FromEntry codes.now lists.now keys.old done.now n t.e) keys.new spans.new slots.new links.new notes.new result }
+// From entry e by every body of its role, then by every body for links by its name.
+fn fire_both(store: &mut Store, uses: &UseLists, done: &[u64; 1024], t: Turn) -> Result<(), Full>
+    requires held { HeldIn store.old done.now }
+    requires few { (store.old.count ≤ t.limit) × (t.limit ≤ 1024) }
+    requires listed { ListedIn uses.now × FormedIn uses.now }
+    requires firing { Firing done.now store.old.count t }
+    ensures { Adds t.limit store.old (FiresBoth uses.now.codes uses.now.valid uses.now.lists store.old.keys done.now store.old.count t.e t.spans) (FromEntry uses.now.codes uses.now.lists store.old.keys done.now store.old.count t.e) store.new result }
 {
-    let limit = t.limit;
-    let e = t.e;
-    let role = store::role_of(keys[e]);
-    let name = 1024 + role % 32;
-    let mut r = n;
-    let mut family = role;
-    loop {
-        if rules::first_body(lists, family) != 0 {
-            r = firing::fire(
-                keys, spans, slots, links, notes, done, codes, valid, lists, r, t, family,
-            );
-            if limit < r {
-                return r;
-            }
-        }
-        if family == name {
-            return r;
-        }
-        family = name;
+    let role = store::role_of(store.keys[t.e]);
+    fire_family(store, uses, done, t, role)?;
+    fire_family(store, uses, done, t, 1024 + role % 32)
+}
+
+// From entry e by every body of a family. A family without bodies is not gone through.
+fn fire_family(
+    store: &mut Store,
+    uses: &UseLists,
+    done: &[u64; 1024],
+    t: Turn,
+    family: usize,
+) -> Result<(), Full>
+    requires held { HeldIn store.old done.now }
+    requires few { (store.old.count ≤ t.limit) × (t.limit ≤ 1024) }
+    requires listed { ListedIn uses.now × FormedIn uses.now }
+    requires firing { Firing done.now store.old.count t }
+    requires family { InFamily store.old.keys t.e family }
+    ensures { Adds t.limit store.old (Fires uses.now.codes uses.now.valid uses.now.lists store.old.keys done.now store.old.count t.e t.spans family) (FromFamily uses.now.codes uses.now.lists store.old.keys done.now store.old.count t.e family) store.new result }
+{
+    if uses.first_body(family) == 0 {
+        return Ok(());
     }
+    firing::fire(store, uses, done, t, family)
 }
 
 // The spans m without those done, which are among them.

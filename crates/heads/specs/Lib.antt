@@ -1,3 +1,4 @@
 pub mod Gaining
 pub mod Walks
 pub mod Heads
+pub mod Stores

@@ -4,8 +4,12 @@
 ghost use Rattle.std.specs.Prelude.{◌≡◌, List, ℕ, ◌<◌, ◌≤◌};
 ghost use Rattle.rules.specs.Uses.{Listed};
 ghost use Rattle.store.specs.Notes.{noted};
-ghost use Rattle.heads.specs.Gaining.{Kept, Gains};
-ghost use Rattle.heads.specs.Heads.{Ready, One, ByHead, Headed, Coverings, credential_by, first_by, second_by, FromHead, FromHeads, TheOne};
+ghost use Rattle.store.specs.Store.{SameEntries};
+ghost use Rattle.heads.specs.Heads.{One, ByHead, Headed, Coverings, credential_by, first_by, second_by, FromHead, FromHeads, TheOne};
+ghost use Rattle.heads.specs.Stores.{KeptIn, ReadyIn, Adds};
+
+use rules::UseLists;
+use store::{Full, Store};
 
 // A set for the heads of a body, in some spans; the words of the entry that gives it and of its partner, each one more than the entry's number, 0 where there is
 // no partner. A new entry past the limit is not added.
@@ -20,100 +24,59 @@ pub struct Gift {
 }
 
 // Adds a set to every head of a body.
-pub fn add_heads(
-    keys: &mut [u64; 1024],
-    spans: &mut [u64; 1024],
-    slots: &mut [u16; 3072],
-    links: &mut [u16; 2048],
-    notes: &mut [u16; 3072],
-    codes: &[u32; 1024],
-    valid: &[u64; 512],
-    lists: &[u16; 3106],
-    n: usize,
-    g: Gift,
-) -> usize
-    requires fact_1 { Ready keys.old spans.old slots.old links.old notes.old n g.limit codes.now valid.now lists.now g.body }
-    requires fact_2 { (g.set < 4294967296) × (g.own ≤ n) × (g.other ≤ n) }
-    ensures { Gains g.limit keys.old spans.old notes.old n (Headed codes.now valid.now lists.now g.body (One g.set g.spans)) (FromHeads codes.now lists.now g.body g.own (TheOne g.set g.other)) keys.new spans.new slots.new links.new notes.new result }
+pub fn add_heads(store: &mut Store, uses: &UseLists, g: Gift) -> Result<(), Full>
+    requires ready { ReadyIn store.old g.limit uses.now g.body }
+    requires gift { (g.set < 4294967296) × (g.own ≤ store.old.count) × (g.other ≤ store.old.count) }
+    ensures { Adds g.limit store.old (Headed uses.now.codes uses.now.valid uses.now.lists g.body (One g.set g.spans)) (FromHeads uses.now.codes uses.now.lists g.body g.own (TheOne g.set g.other)) store.new result }
 {
-    let limit = g.limit;
-    let mut r = n;
-    let mut at = rules::first_head(lists, g.body);
+    let mut at = uses.first_head(g.body);
     while at != 0 {
-        r = add_head(
-            keys,
-            spans,
-            slots,
-            links,
-            notes,
-            codes,
-            valid,
-            lists,
-            r,
-            g,
-            at - 1,
-        );
-        if limit < r {
-            return r;
-        }
-        at = rules::next_head(lists, at);
+        add_head(store, uses, g, at - 1)?;
+        at = uses.next_head(at);
     }
-    r
+    Ok(())
 }
 
-// Adds a set to head i.
-pub fn add_head(
-    keys: &mut [u64; 1024],
-    spans: &mut [u64; 1024],
-    slots: &mut [u16; 3072],
-    links: &mut [u16; 2048],
-    notes: &mut [u16; 3072],
-    codes: &[u32; 1024],
-    valid: &[u64; 512],
-    lists: &[u16; 3106],
-    n: usize,
-    g: Gift,
-    i: usize,
-) -> usize
-    requires fact_1 { Kept keys.old spans.old slots.old links.old notes.old n }
-    requires fact_2 { (n ≤ g.limit) × (g.limit ≤ 1024) × (i < 512) }
-    requires fact_3 { (g.set < 4294967296) × (g.own ≤ n) × (g.other ≤ n) }
-    ensures { Gains g.limit keys.old spans.old notes.old n (ByHead codes.now valid.now g.set g.spans i) (FromHead codes.now lists.now g.own g.other g.set i) keys.new spans.new slots.new links.new notes.new result }
+// Adds a set to head i. Inlined, so that a gift need not be stored for each call.
+#[inline(always)]
+pub fn add_head(store: &mut Store, uses: &UseLists, g: Gift, i: usize) -> Result<(), Full>
+    requires kept { KeptIn store.old }
+    requires few { (store.old.count ≤ g.limit) × (g.limit ≤ 1024) × (i < 512) }
+    requires gift { (g.set < 4294967296) × (g.own ≤ store.old.count) × (g.other ≤ store.old.count) }
+    ensures { Adds g.limit store.old (ByHead uses.now.codes uses.now.valid g.set g.spans i) (FromHead uses.now.codes uses.now.lists g.own g.other g.set i) store.new result }
 {
-    let limit = g.limit;
-    let key = store::key_of(rules::head_role(codes, i), g.set);
-    let r = store::add(keys, spans, slots, links, n, limit, key, g.spans & valid[i]);
-    if limit < r {
-        return r;
+    let n = store.count;
+    let key = store::key_of(uses.head_role(i), g.set);
+    store.add(g.limit, key, g.spans & uses.valid[i])?;
+    if store.count == n {
+        return Ok(());
     }
-    if r == n {
-        return r;
-    }
-    note_head(notes, n, rules::source_of(lists, i), g.own, g.other);
-    r
+    note_head(store, n, uses.source_of(i), g.own, g.other);
+    Ok(())
 }
 
 // The spans in which some head of a body is valid.
-pub fn body_spans(valid: &[u64; 512], lists: &[u16; 3106], body: usize) -> u64
-    requires fact_1 { ((codes : List ℕ) × Listed codes valid.now lists.now) }
-    requires fact_2 { body < 512 }
-    ensures { Coverings valid.now lists.now body result }
+pub fn body_spans(uses: &UseLists, body: usize) -> u64
+    requires listed { ((codes : List ℕ) × Listed codes uses.now.valid uses.now.lists) }
+    requires low { body < 512 }
+    ensures { Coverings uses.now.valid uses.now.lists body result }
 {
     let mut all: u64 = 0;
-    let mut at = rules::first_head(lists, body);
+    let mut at = uses.first_head(body);
     while at != 0 {
-        all = all | valid[at - 1];
-        at = rules::next_head(lists, at);
+        all |= uses.valid[at - 1];
+        at = uses.next_head(at);
     }
     all
 }
 
 // Notes entry n by the source of a head.
-fn note_head(notes: &mut [u16; 3072], n: usize, source: u16, own: u16, other: u16)
+fn note_head(store: &mut Store, n: usize, source: u16, own: u16, other: u16)
     requires { (n < 1024) × (own ≤ n) × (other ≤ n) }
-    ensures { notes.new ≡ noted notes.old n (credential_by source) (first_by source own other) (second_by source own other) }
+    ensures notes { store.new.notes ≡ noted store.old.notes n (credential_by source) (first_by source own other) (second_by source own other) }
+    ensures others { SameEntries store.old store.new }
 {
     let premise = source / 256 % 2;
     let first = own * (1 - premise) + other * premise;
-    store::note(notes, n, source % 256, first, own + other - first);
+    store.note(n, source % 256, first, own + other - first);
 }

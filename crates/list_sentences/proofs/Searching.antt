@@ -1,16 +1,28 @@
 -- Whether a test takes one of the numbers below n, and which it takes first.
-use mathlib.Core.Path.{◌≡◌, refl, ap, ◌∙◌, subst, subst⁻¹}
+use mathlib.Core.Path.{◌≡◌, refl, sym, ap, ap₂, ◌∙◌, subst, subst⁻¹}
 use mathlib.Core.Logic.{dite, ⊎_elim}
-use mathlib.Core.Bool.{Bool, true, false}
-use Prim.Native.Nat.{ℕ, zero, suc, ◌≤◌, ◌<◌}
+use mathlib.Core.Bool.{Bool, true, false, ◌||◌, not}
+use mathlib.Core.List.{List}
+use Prim.Native.Nat.{ℕ, zero, suc, ◌+◌, ◌*◌, ◌≤◌, ◌<◌}
 use native.Mathlib.Omega.{arith}
 use native.Mathlib.Decide.{ℕ_discrete}
-use lib.Dec.{T}
+use lib.Dec.{T, eqb}
 use Rattle.meaning.specs.Lists.{if, any, up_from, below}
 use Rattle.meaning.proofs.Tests.{any-in, any_out, is_true, is_false}
 use Rattle.meaning.proofs.ListLaws.{below_in, below_out}
+use Rattle.file.specs.Format.{four}
+use Rattle.withdrawals.specs.List.{serial_at, repeated}
 use Rattle.sentences.specs.Words.{first_of}
+use Rattle.list_sentences.specs.ListSentences.{on_credential, wrong_at}
 use Rattle.sentences.proofs.First.{found-or}
+
+-- of numbers that stand `step` bytes apart, number j is x
+abbrev pub is : List ℕ → ℕ → ℕ → ℕ → ℕ → Bool
+is bytes from step x j = eqb (four bytes (from + step * j)) x
+
+-- a withdrawal is wrong by its two tests
+pub tested : (f w : List ℕ) (k x : ℕ) {r o : Bool} → x ≡ serial_at w k → r ≡ repeated w k → o ≡ on_credential f x → wrong_at f w k ≡ (r || not o)
+tested f w k x e h g = ap₂ (λ (a b : Bool). a || not b) (sym h) (ap (on_credential f) (sym e) ∙ sym g)
 
 pub contrary : {b : Bool} → b ≡ true → b ≡ false → ⊥
 contrary e d = subst T d (subst⁻¹ T e tt)

@@ -1,10 +1,9 @@
-// What a refusal of a withdrawal list means, as a line of text in a buffer of 256 bytes. It takes any bytes and numbers; what it says is so where a call gave
+// What a refusal of a withdrawal list means, as a line of text of at most 256 bytes. It takes any bytes and numbers; what it says is so where a call gave
 // that refusal for them.
 #![tactic(auto)]
 
 ghost use Rattle.std.specs.Prelude.{◌≡◌, ◌+◌, ◌*◌, ◌≤◌, ◌<◌, min, eqb};
 ghost use Rattle.meaning.specs.Lists.{any, below};
-ghost use Rattle.text.specs.Lines.{LinedIn};
 ghost use Rattle.file.specs.Format.{four};
 ghost use Rattle.withdrawals.specs.List.{serial_at, repeated as list_repeated};
 ghost use Rattle.sentences.specs.Filling.{sentence};
@@ -12,14 +11,14 @@ ghost use Rattle.list_sentences.specs.ListWords.{list_words};
 ghost use Rattle.list_sentences.specs.ListSentences.{shape_text, on_credential, first_wrong, serial_text, list_text, list_sentence};
 
 use sentences::Sentence;
+use text::Text;
 
-// The line of a refusal of a withdrawal list: 20, and 21 of the list with a file. Returns how many bytes it has, and leaves the bytes after it as they were.
-pub fn list_line(out: &mut [u8; 256], file: &[u8], list: &[u8], number: u32) -> usize
-    ensures { LinedIn 256 out.old out.new result (list_sentence file.now list.now number) }
+// The line of a refusal of a withdrawal list: 20, and 21 of the list with a file.
+pub fn list_line(file: &[u8], list: &[u8], number: u32) -> Text<256>
+    ensures { result ≡ list_sentence file.now list.now number }
 {
     let s = said(file, list, number);
-    sentences::put_sentence(
-        out,
+    sentences::filled_line(
         b"refused\n\
         the withdrawal list has # {byte|bytes}, fewer than 2\n\
         the withdrawal list has # withdrawals, at most 256 are allowed\n\
@@ -76,14 +75,11 @@ fn serial(list: &[u8], k: u32) -> Sentence
 fn first_wrong(file: &[u8], list: &[u8]) -> u32
     ensures { (result ≡ first_wrong file.now list.now) × (result ≤ 256) }
 {
-    let n = looked(sentences::two_at(list, 0));
-    let mut k = 0;
-    while k < n {
+    for k in 0..looked(sentences::two_at(list, 0)) {
         let x = serial_at(list, k);
         if repeated(list, k, x) | !on_credential(file, x) {
             return k;
         }
-        k += 1;
     }
     0
 }
@@ -115,10 +111,7 @@ fn on_credential(file: &[u8], x: u32) -> bool
 fn looked(n: u32) -> u32
     ensures { result ≡ min n 256 }
 {
-    if 256 < n {
-        return 256;
-    }
-    n
+    n.min(256)
 }
 
 // Whether x is one of n numbers, the first at `from`, each `step` bytes after the one before.
@@ -126,14 +119,10 @@ fn among(bytes: &[u8], from: usize, step: usize, n: u32, x: u32) -> bool
     requires { (from ≤ 14) × (step ≤ 12) × (n ≤ 256) }
     ensures { result ≡ any (λ j. eqb (four bytes.now (from + step * j)) x) (below n) }
 {
-    let mut p = from;
-    let mut j = 0;
-    while j < n {
-        if sentences::four_at(bytes, p) == x {
+    for j in 0..n {
+        if sentences::four_at(bytes, from + step * j as usize) == x {
             return true;
         }
-        p += step;
-        j += 1;
     }
     false
 }

@@ -4,48 +4,30 @@
 ghost use Rattle.std.specs.Prelude.{◌≡◌, ◌<◌};
 ghost use Rattle.policy.specs.Policy.{credential_of, statement_in, Decoded, body_of};
 ghost use Rattle.masks.specs.Masks.{Spans};
-ghost use Rattle.loading.specs.Loading.{NoUses, UsesLoaded};
-ghost use Rattle.loading.specs.Steps.{InFormat, first_use, second_use, Room, UsesAdded, BodyUses, UseOf};
+ghost use Rattle.loading.specs.Lists.{NoUsesIn, UsesLoadedIn, RoomIn, UsesAddedIn};
+ghost use Rattle.loading.specs.Steps.{InFormat, first_use, second_use, BodyUses, UseOf};
 
 use policy::Statement;
-use rules::Use;
+use rules::{Use, UseLists};
 
 // The uses of all credentials that are valid in some span, each head with its source.
-pub fn load_uses(
-    codes: &mut [u32; 1024],
-    valid: &mut [u64; 512],
-    lists: &mut [u16; 3106],
-    policy: &[u64; 512],
-    n: usize,
-    ends: &[u32; 64],
-    count: usize,
-)
-    requires fact_1 { Decoded policy.now n }
-    requires fact_2 { Spans ends.now count }
-    requires fact_3 { NoUses codes.old valid.old lists.old }
-    ensures { UsesLoaded policy.now n ends.now count codes.new valid.new lists.new }
+pub fn load_uses(uses: &mut UseLists, policy: &[u64; 512], n: usize, ends: &[u32; 64], count: usize)
+    requires decoded { Decoded policy.now n }
+    requires spans { Spans ends.now count }
+    requires none { NoUsesIn uses.old }
+    ensures { UsesLoadedIn policy.now n ends.now count uses.new }
 {
-    let mut i = 0;
-    while i < n {
-        load_use(codes, valid, lists, policy, ends, count, i);
-        i += 1;
+    for i in 0..n {
+        load_use(uses, policy, ends, count, i);
     }
 }
 
 // The uses of the credential at position i.
-fn load_use(
-    codes: &mut [u32; 1024],
-    valid: &mut [u64; 512],
-    lists: &mut [u16; 3106],
-    policy: &[u64; 512],
-    ends: &[u32; 64],
-    count: usize,
-    i: usize,
-)
-    requires fact_1 { Room 2 codes.old valid.old lists.old }
-    requires fact_2 { Spans ends.now count }
-    requires fact_3 { (i < 256) × InFormat (statement_in policy.now i) }
-    ensures { UsesAdded 2 (UseOf ends.now count i (credential_of policy.now i)) codes.old valid.old lists.old codes.new valid.new lists.new }
+fn load_use(uses: &mut UseLists, policy: &[u64; 512], ends: &[u32; 64], count: usize, i: usize)
+    requires room { RoomIn 2 uses.old }
+    requires spans { Spans ends.now count }
+    requires format { (i < 256) × InFormat (statement_in policy.now i) }
+    ensures { UsesAddedIn 2 (UseOf ends.now count i (credential_of policy.now i)) uses.old uses.new }
 {
     let s = policy::statement_at(policy, i);
     if s.kind == 0 {
@@ -55,34 +37,27 @@ fn load_use(
     if v == 0 {
         return;
     }
-    add_uses(codes, valid, lists, s, v, i as u16);
+    add_uses(uses, s, v, i as u16);
 }
 
 // The uses of a statement by its first premise and by its second, in spans v.
-fn add_uses(
-    codes: &mut [u32; 1024],
-    valid: &mut [u64; 512],
-    lists: &mut [u16; 3106],
-    s: Statement,
-    v: u64,
-    i: u16,
-)
-    requires fact_1 { Room 2 codes.old valid.old lists.old }
-    requires fact_2 { InFormat s }
-    requires fact_3 { (i < 256) × (s.kind ≡ 0 → ⊥) × (v ≡ 0 → ⊥) }
-    ensures { UsesAdded 2 (BodyUses (body_of s) s.head v i) codes.old valid.old lists.old codes.new valid.new lists.new }
+fn add_uses(uses: &mut UseLists, s: Statement, v: u64, i: u16)
+    requires room { RoomIn 2 uses.old }
+    requires format { InFormat s }
+    requires some { (i < 256) × (s.kind ≡ 0 → ⊥) × (v ≡ 0 → ⊥) }
+    ensures { UsesAddedIn 2 (BodyUses (body_of s) s.head v i) uses.old uses.new }
 {
-    listing::add_use(codes, valid, lists, first_of(s), v, i);
+    listing::add_use(uses, first_of(s), v, i);
     if s.kind == 1 {
         return;
     }
-    listing::add_use(codes, valid, lists, second_of(s), v, i + 256);
+    listing::add_use(uses, second_of(s), v, i + 256);
 }
 
 // The use by the first premise.
 fn first_of(s: Statement) -> Use
-    requires fact_1 { InFormat s }
-    requires fact_2 { (s.kind ≡ 0 → ⊥) }
+    requires format { InFormat s }
+    requires some { (s.kind ≡ 0 → ⊥) }
     ensures { result ≡ first_use s }
 {
     if s.kind == 1 {
@@ -103,8 +78,8 @@ fn first_of(s: Statement) -> Use
 
 // The use by the second premise.
 fn second_of(s: Statement) -> Use
-    requires fact_1 { InFormat s }
-    requires fact_2 { (s.kind ≡ 0 → ⊥) × (s.kind ≡ 1 → ⊥) }
+    requires format { InFormat s }
+    requires some { (s.kind ≡ 0 → ⊥) × (s.kind ≡ 1 → ⊥) }
     ensures { result ≡ second_use s }
 {
     if s.kind == 2 {

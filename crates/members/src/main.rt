@@ -14,9 +14,7 @@ fn print_interval<O: Print, E: Print>(
     from: u32,
     to: u32,
 ) -> bool {
-    let mut line = [0u8; 128];
-    let n = lines::interval_line(&mut line, role, set, from, to);
-    console::write_line(out, err, &line, n)
+    console::write_line(out, err, &lines::interval_line(role, set, from, to))
 }
 
 fn print_membership<O: Print, E: Print>(
@@ -29,18 +27,10 @@ fn print_membership<O: Print, E: Print>(
 ) -> bool {
     let none = withdrawals::none();
     let v = ends::intervals_of(file, &none, spans);
-    let list = v.intervals;
-    let count = v.count as usize;
-    let mut i = 0;
-    while i < 32 {
-        if count <= i {
-            return true;
-        }
-        let x = list[i];
+    for x in v.intervals.iter().take(v.count as usize) {
         if !print_interval(out, err, role, set, x.from, x.to) {
             return false;
         }
-        i += 1;
     }
     true
 }
@@ -54,15 +44,10 @@ fn print_table<O: Print, E: Print>(
     spans: &[u64; 1024],
     count: usize,
 ) {
-    let mut i = 0;
-    while i < 1024 {
-        if count <= i {
-            return;
-        }
+    for i in 0..count.min(1024) {
         if !print_membership(out, err, file, roles[i], sets[i], spans[i]) {
             return;
         }
-        i += 1;
     }
 }
 

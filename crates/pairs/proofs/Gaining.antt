@@ -48,7 +48,3 @@ gains-by-new {limit} {keys} {spans} {n = n} {New} {By} {By'} {keys'} {spans'} {n
             let d = distinct-keys (h.kept l).stored j i (omega arith) q (g.same j o ∙ e) in
             absurd (omega arith)
         go (inr w) = f (get_or keys' i 0) s (word notes' i 0) (word notes' i 1) (word notes' i 2) w ((h.noted l).by i p q)
-
--- the same of lists and a count that are said to be those
-pub gains-as : {limit : ℕ} {keys spans notes : List ℕ} {n : ℕ} {New : Spanned} {By : Origin} {keys' spans' slots' links' notes' keys'' spans'' slots'' links'' notes'' : List ℕ} {r t : ℕ} → keys'' ≡ keys' → spans'' ≡ spans' → slots'' ≡ slots' → links'' ≡ links' → notes'' ≡ notes' → t ≡ r → r ≤ limit → Gains limit keys spans notes n New By keys' spans' slots' links' notes' r → (t ≤ limit) × Gains limit keys spans notes n New By keys'' spans'' slots'' links'' notes'' t
-gains-as a b c d e f l g = rw (a, b, c, d, e, f) (l, g)

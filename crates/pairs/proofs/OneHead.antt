@@ -9,7 +9,6 @@ use Rattle.meaning.specs.Table.{bit}
 use Rattle.store.specs.Entries.{key_of, set_in, latest, Has}
 use Rattle.rules.specs.Uses.{head_of}
 use Rattle.heads.specs.Gaining.{Origin, Gains}
-use Rattle.heads.specs.declared.Gift.{Gift}
 use Rattle.heads.specs.Heads.{ByHead, Headed, FromHead}
 use Rattle.heads.proofs.Gaining.{gains-same}
 use Rattle.heads.proofs.Walks.{along-next}
@@ -72,10 +71,8 @@ module _ {limit : ℕ} {keys spans notes : List ℕ} {n : ℕ} {codes valid list
           (all s (subst (λ (y : ℕ). bit (bit_and x.spans y) s ≡ 1) (sym f) b))
 
   -- it is added to the head
-  pub entry-added : {g : Gift} {keys'' spans'' slots'' links'' notes'' : List ℕ} {t : ℕ} → g ≡ record { limit = limit; body = body; set = x.set; spans = x.spans; own = own; other = x.other } → Gains g.limit keys' spans' notes' r (ByHead codes valid g.set g.spans head) (FromHead codes lists g.own g.other g.set head) keys'' spans'' slots'' links'' notes'' t → Gains limit keys' spans' notes' r (Each codes valid lists body keys done o (c - 1)) (ByEach codes lists body own keys done start o) keys'' spans'' slots'' links'' notes'' t
-  entry-added {keys'' = keys''} {spans''} {slots''} {links''} {notes''} {t} e w =
-      gains-same to back
-      (gains-by-new by (subst (λ (g : Gift). Gains g.limit keys' spans' notes' r (ByHead codes valid g.set g.spans head) (FromHead codes lists g.own g.other g.set head) keys'' spans'' slots'' links'' notes'' t) e w))
+  pub entry-added : {keys'' spans'' slots'' links'' notes'' : List ℕ} {t : ℕ} → Gains limit keys' spans' notes' r (ByHead codes valid x.set x.spans head) (FromHead codes lists own x.other x.set head) keys'' spans'' slots'' links'' notes'' t → Gains limit keys' spans' notes' r (Each codes valid lists body keys done o (c - 1)) (ByEach codes lists body own keys done start o) keys'' spans'' slots'' links'' notes'' t
+  entry-added w = gains-same to back (gains-by-new by w)
     where
       pairing : (s : ℕ) → bit x.spans s ≡ 1 → Pairing keys done start o.kind o.set x.set x.other
       pairing s b =

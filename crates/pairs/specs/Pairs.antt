@@ -1,5 +1,5 @@
 -- The only head of a body, and what the entries have already.
-use Rattle.std.specs.Prelude.{◌≡◌, List, ℕ, ◌-◌, ◌<◌}
+use Rattle.std.specs.Prelude.{◌≡◌, Option, None, Some, List, ℕ, ◌<◌}
 use Rattle.std.specs.Int.Bits.{bit_and}
 use Rattle.meaning.specs.Table.{bit}
 use Rattle.store.specs.Entries.{key_of, Has, Searchable}
@@ -16,9 +16,10 @@ pub record OnlyHead (codes lists : List ℕ) (body head : ℕ) : Type 0 where
   pub of : body_of_head codes head ≡ body
   pub only : (i : ℕ) → i < heads_in lists → body_of_head codes i ≡ body → i ≡ head
 
--- c is 0, or one more than the body's only head
-abbrev pub OnlyHeads : List ℕ → ℕ → ℕ → Type 0
-OnlyHeads lists body c = (codes valid : List ℕ) → Listed codes valid lists → (c ≡ 0 → ⊥) → OnlyHead codes lists body (c - 1)
+-- of the heads of a body, the only one; none is always right
+abbrev pub OnlyHeads : List ℕ → ℕ → Option ℕ → Type 0
+OnlyHeads lists body None = Unit
+OnlyHeads lists body (Some head) = (codes valid : List ℕ) → Listed codes valid lists → OnlyHead codes lists body head
 
 -- the entries have all that a pair gives a head with the role and the spans v
 abbrev pub AllThere : List ℕ → List ℕ → ℕ → ℕ → Pair → ℕ → Type 0

@@ -8,16 +8,13 @@ use lib.ListN.{get_or}
 use Rattle.meaning.specs.Table.{bit}
 use Rattle.store.specs.Entries.{role_in, set_in}
 use Rattle.store.proofs.Chains.{equal_or_not}
-use Rattle.heads.specs.Gaining.{Origin, Kept, Gains}
+use Rattle.heads.specs.Gaining.{Gains}
 use Rattle.heads.specs.Heads.{One, Headed, FromHeads, TheOne}
 use Rattle.heads.proofs.Gaining.{gains-by, gains-same, gains-over, gains-then}
-use Rattle.heads.proofs.Heads.{headed-more, headed-split, headed-join, headed-none, from-heads-more}
+use Rattle.heads.proofs.Heads.{headed-more, headed-split, headed-join, from-heads-more}
 use Rattle.waiting.specs.Waiting.{Waits, Partnered}
 
 module _ (places : List ℕ) where
-  waits-none : (X s : ℕ) → Waits places 0 X s → ⊥
-  waits-none X s w = omega (arith, w.low)
-
   -- place i is the last
   waits-next : (i X s : ℕ) → Waits places (i + 1) X s → Waits places i X s ⊎ One (set_in (get_or places i 0)) (get_or places (24 + i) 0) X s
   waits-next i X s w = go (equal_or_not w.place i)
@@ -33,22 +30,15 @@ module _ (places : List ℕ) where
   waits-more : (i count : ℕ) → i ≤ count → (X s : ℕ) → Waits places i X s → Waits places count X s
   waits-more i count l X s w = record { place = w.place; low = let k = w.low in omega arith; set = w.set; spans = w.spans }
 
-  module _ {limit : ℕ} {keys spans notes : List ℕ} {n : ℕ} {codes valid lists : List ℕ} {body : ℕ} where
-    pub added-start : {slots links : List ℕ} {By : Origin} → Kept keys spans slots links notes n → n ≤ limit → Gains limit keys spans notes n (Headed codes valid lists body (Waits places 0)) By keys spans slots links notes n
-    added-start kept few = headed-none kept few waits-none
+  module _ {limit : ℕ} {keys spans notes : List ℕ} {n : ℕ} {codes valid lists : List ℕ} {body own count : ℕ} {keys' spans' slots' links' notes' keys'' spans'' slots'' links'' notes'' : List ℕ} {r t : ℕ} {set other : ℕ} (i : ℕ) (low : i < count) (e : set ≡ set_in (get_or places i 0)) (f : other ≡ role_in (get_or places i 0)) (g : Gains limit keys spans notes n (Headed codes valid lists body (Waits places i)) (FromHeads codes lists body own (Partnered places count)) keys' spans' slots' links' notes' r) (few : r ≤ limit) (a : Gains limit keys' spans' notes' r (Headed codes valid lists body (One set (get_or places (24 + i) 0))) (FromHeads codes lists body own (TheOne set other)) keys'' spans'' slots'' links'' notes'' t) where
+    -- the set at place i, with its partner
+    this : Gains limit keys' spans' notes' r (Headed codes valid lists body (One (set_in (get_or places i 0)) (get_or places (24 + i) 0))) (FromHeads codes lists body own (Partnered places count)) keys'' spans'' slots'' links'' notes'' t
+    this =
+        gains-same (headed-more (λ X s w. (w.0 ∙ e, w.1))) (headed-more (λ X s w. (w.0 ∙ sym e, w.1)))
+        (gains-by (from-heads-more (λ X w q. record { place = i; low = low; set = q.0 ∙ e; word = q.1 ∙ f })) a)
 
-    pub added-end : {keys' spans' slots' links' notes' : List ℕ} {r : ℕ} {By : Origin} (i count : ℕ) → i ≤ count → count ≤ i → Gains limit keys spans notes n (Headed codes valid lists body (Waits places i)) By keys' spans' slots' links' notes' r → Gains limit keys spans notes n (Headed codes valid lists body (Waits places count)) By keys' spans' slots' links' notes' r
-    added-end i count a b = gains-same (headed-more (waits-more i count a)) (headed-more (waits-more count i b))
+    pub added_next : Gains limit keys spans notes n (Headed codes valid lists body (Waits places (i + 1))) (FromHeads codes lists body own (Partnered places count)) keys'' spans'' slots'' links'' notes'' t
+    added_next = gains-same (headed-join (next-waits i)) (headed-split (waits-next i)) (gains-then g few this)
 
-    module _ {own count : ℕ} {keys' spans' slots' links' notes' keys'' spans'' slots'' links'' notes'' : List ℕ} {r t : ℕ} {set other : ℕ} (i : ℕ) (low : i < count) (e : set ≡ set_in (get_or places i 0)) (f : other ≡ role_in (get_or places i 0)) (g : Gains limit keys spans notes n (Headed codes valid lists body (Waits places i)) (FromHeads codes lists body own (Partnered places count)) keys' spans' slots' links' notes' r) (few : r ≤ limit) (a : Gains limit keys' spans' notes' r (Headed codes valid lists body (One set (get_or places (24 + i) 0))) (FromHeads codes lists body own (TheOne set other)) keys'' spans'' slots'' links'' notes'' t) where
-      -- the set at place i, with its partner
-      this : Gains limit keys' spans' notes' r (Headed codes valid lists body (One (set_in (get_or places i 0)) (get_or places (24 + i) 0))) (FromHeads codes lists body own (Partnered places count)) keys'' spans'' slots'' links'' notes'' t
-      this =
-          gains-same (headed-more (λ X s w. (w.0 ∙ e, w.1))) (headed-more (λ X s w. (w.0 ∙ sym e, w.1)))
-          (gains-by (from-heads-more (λ X w q. record { place = i; low = low; set = q.0 ∙ e; word = q.1 ∙ f })) a)
-
-      pub added_next : Gains limit keys spans notes n (Headed codes valid lists body (Waits places (i + 1))) (FromHeads codes lists body own (Partnered places count)) keys'' spans'' slots'' links'' notes'' t
-      added_next = gains-same (headed-join (next-waits i)) (headed-split (waits-next i)) (gains-then g few this)
-
-      pub added-over : limit < t → Gains limit keys spans notes n (Headed codes valid lists body (Waits places count)) (FromHeads codes lists body own (Partnered places count)) keys'' spans'' slots'' links'' notes'' t
-      added-over m = gains-over (headed-more (waits-more (i + 1) count (omega arith))) m added_next
+    pub added-over : limit < t → Gains limit keys spans notes n (Headed codes valid lists body (Waits places count)) (FromHeads codes lists body own (Partnered places count)) keys'' spans'' slots'' links'' notes'' t
+    added-over m = gains-over (headed-more (waits-more (i + 1) count (omega arith))) m added_next

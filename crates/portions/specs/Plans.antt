@@ -1,11 +1,15 @@
 -- What the heads of a body give from a set and each entry of a role.
-use Rattle.std.specs.Prelude.{List, ℕ, ◌-◌, get_or}
+use Rattle.std.specs.Prelude.{Result, List, ℕ, ◌-◌, get_or}
 use Rattle.std.specs.Int.Bits.{bit_and}
 use Rattle.store.specs.Entries.{set_in}
-use Rattle.heads.specs.Gaining.{Spanned, Gains}
+use Rattle.heads.specs.Gaining.{Spanned}
 use Rattle.heads.specs.Walks.{From}
 use Rattle.heads.specs.Heads.{Headed, FromHeads}
 use Rattle.heads.specs.declared.Gift.{Gift}
+use Rattle.heads.specs.Stores.{Adds}
+use Rattle.store.specs.declared.Store.{Store}
+use Rattle.store.specs.declared.Full.{Full}
+use Rattle.rules.specs.declared.UseLists.{UseLists}
 use Rattle.waiting.specs.declared.Pair.{Pair}
 use Rattle.waiting.specs.Pairs.{role_of, WithPair, Pairing}
 use Rattle.portions.specs.declared.Plan.{Plan}
@@ -20,10 +24,10 @@ WithEach codes valid lists body keys done start kind x d =
     From (role_of keys) (role_of keys (start - 1)) start 0 (WithEntry codes valid lists body keys done kind x d)
 
 -- what the entries of a plan give was added to the heads of its body, new entries with their notes
-abbrev pub PlanGains : Plan → List ℕ → List ℕ → List ℕ → List ℕ → List ℕ → List ℕ → List ℕ → ℕ → List ℕ → List ℕ → List ℕ → List ℕ → List ℕ → ℕ → Type 0
-PlanGains p codes valid lists done keys spans notes n keys' spans' slots' links' notes' r =
-    Gains p.limit keys spans notes n (WithEach codes valid lists p.body keys done p.start p.offer.kind p.offer.set p.offer.spans)
-    (FromHeads codes lists p.body p.own (Pairing keys done p.start p.offer.kind p.offer.set)) keys' spans' slots' links' notes' r
+abbrev pub PlanAdds : Plan → UseLists → List ℕ → Store → Store → Result Unit Full → Type 0
+PlanAdds p u done s s' r =
+    Adds p.limit s (WithEach u.codes u.valid u.lists p.body s.keys done p.start p.offer.kind p.offer.set p.offer.spans)
+    (FromHeads u.codes u.lists p.body p.own (Pairing s.keys done p.start p.offer.kind p.offer.set)) s' r
 
 -- what a pair gives the heads of a plan's body
 abbrev pub gift_of : Plan → Pair → Gift

@@ -3,7 +3,7 @@ use mathlib.Core.Path.{◌≡◌, refl, sym, ap, ◌∙◌, subst, subst⁻¹}
 use mathlib.Core.Logic.{◌⊎◌, inl, inr, ◌↔◌}
 use mathlib.Core.Bool.{Bool, true, false}
 use mathlib.Core.List.{List}
-use Prim.Native.Nat.{ℕ, suc, ◌-◌, ◌^◌, ◌≤◌, ◌<◌, zero-le}
+use Prim.Native.Nat.{ℕ, suc, ◌+◌, ◌-◌, ◌^◌, ◌≤◌, ◌<◌, zero-le}
 use native.Mathlib.Omega.{arith}
 use lib.Bits.{bit_and}
 use lib.ListN.{get_or}
@@ -39,10 +39,6 @@ and_zero d m z = bit-ext (bit_and d m) 0 (λ i. let y = ap (λ (x : ℕ). bit x 
 
 -- ---- the entry with a key
 
-pub single-same : {keys done : List ℕ} {n key key' x x' d : ℕ} {m : Move} → key ≡ key' → x ≡ x' → Single keys done n key x d m → Single keys done n key' x' d m
-single-same {keys} {done} {n} {key} {x' = x'} {d} {m} e f w =
-    subst (λ (k : ℕ). Single keys done n k x' d m) e (subst (λ (y : ℕ). Single keys done n key y d m) f w)
-
 -- there is none
 pub single-none : {keys : List ℕ} (done : List ℕ) {n key : ℕ} (x d : ℕ) → ((i : ℕ) → i < n → get_or keys i 0 ≡ key → ⊥) → Single keys done n key x d (single_of x 0 0)
 single-none {keys} done {n} {key} x d none =
@@ -63,35 +59,29 @@ module _ {keys slots links : List ℕ} {n : ℕ} (st : Stored keys slots links n
   pub role-none : (key : ℕ) → role_in key < 1024 → latest_in links (role_in key) ≡ 0 → (i : ℕ) → i < n → get_or keys i 0 ≡ key → ⊥
   role-none key r z i l e = latest-none (role_of keys) (role_in key) n i (omega (arith, st.chained.lasts (role_in key) r)) l (ap role_in e)
 
-  pub single-some : (done : List ℕ) {key c : ℕ} (x d : ℕ) → EntryOf keys n key c → (c ≡ 0 → ⊥) → Single keys done n key x d (single_of x (bit_and d (get_or done (c - 1) 0)) c)
-  single-some done {key} {c} x d w nz =
+  pub single-some : (done : List ℕ) {key : ℕ} (i x d : ℕ) → EntryOf keys n key (suc i) → Single keys done n key x d (single_of x (bit_and d (get_or done i 0)) (i + 1))
+  single-some done {key} i x d w =
       record {
         one = refl;
         set = refl;
         exact = λ s. (
-          (λ b. (bit-left d m s b, (c - 1, p.0, p.1, bit-right d m s b))),
-          (λ v. bit-both d m s v.0 (has-entry st done key s (c - 1) p.0 p.1 v.1)),
+          (λ b. (bit-left d m s b, (i, p.0, p.1, bit-right d m s b))),
+          (λ v. bit-both d m s v.0 (has-entry st done key s i p.0 p.1 v.1)),
         );
-        partner = λ ne. (c - 1, p.0, p.1, (λ z. ne (and_zero d m z)), omega arith);
+        partner = λ ne. (i, p.0, p.1, (λ z. ne (and_zero d m z)), omega arith);
         low = let l = p.0 in omega arith;
         start = refl;
       }
     where
       m : ℕ
-      m = get_or done (c - 1) 0
+      m = get_or done i 0
 
-      p : (c - 1 < n) × (get_or keys (c - 1) 0 ≡ key)
-      p = w.present (c - 1) (omega arith)
-
--- ---- where a walk starts
-
-pub walking-same : (links : List ℕ) (t : Turn) {role role' partner partner' : ℕ} (c : ℕ) → role ≡ role' → partner ≡ partner' → Walking links t role partner c → Walking links t role' partner' c
-walking-same links t {role} {partner' = partner'} c e f w =
-    subst (λ (x : ℕ). Walking links t x partner' c) e (subst (λ (r : ℕ). Walking links t role r c) f w)
+      p : (i < n) × (get_or keys i 0 ≡ key)
+      p = w.present i refl
 
 -- ---- a body
 
-module _ {keys slots links done : List ℕ} {n : ℕ} (t : Turn) (code d : ℕ) (st : Stored keys slots links n) (fi : Firing done n t) where
+module _ {keys slots links done : List ℕ} {n : ℕ} {t : Turn} (code d : ℕ) (st : Stored keys slots links n) (fi : Firing done n t) where
   abbrev a : ℕ
   a = get_or keys t.e 0
 

@@ -5,6 +5,7 @@ ghost use Rattle.std.specs.Prelude.{◌≡◌, true, false, ◌<◌, get_or};
 ghost use Rattle.store.specs.Entries.{key_of, role_in, Leading};
 ghost use Rattle.premises.specs.Moves.{Codable, WithOne, Walking, Plans};
 
+use store::Store;
 use waiting::Offer;
 
 // Entry e gives what it can in some spans. `last` says that no entry after it is done yet; false is always right. A new entry past the limit is not added.
@@ -26,81 +27,63 @@ pub struct Move {
 }
 
 // What the body with a code gets from entry e in spans d.
-pub fn plan(
-    keys: &[u64; 1024],
-    slots: &[u16; 3072],
-    links: &[u16; 2048],
-    done: &[u64; 1024],
-    code: u32,
-    t: Turn,
-    d: u64,
-) -> Move
-    requires fact_1 { Leading slots.now }
-    requires fact_2 { (t.e < 1024) × (role_in (get_or keys.now t.e 0) < 1024) }
-    requires fact_3 { Codable keys.now t.e code }
-    ensures { Plans keys.now slots.now links.now done.now t code d result }
+pub fn plan(store: &Store, done: &[u64; 1024], code: u32, t: Turn, d: u64) -> Move
+    requires leading { Leading store.now.slots }
+    requires low { (t.e < 1024) × (role_in (get_or store.now.keys t.e 0) < 1024) }
+    requires codable { Codable store.now.keys t.e code }
+    ensures { Plans store.now.keys store.now.slots store.now.links done.now t code d result }
 {
     let e = t.e;
-    let x = store::set_of(keys[e]);
-    let role = store::role_of(keys[e]);
+    let x = store::set_of(store.keys[e]);
+    let role = store::role_of(store.keys[e]);
     let kind = rules::kind_of(code);
     let partner = rules::other_of(code);
     if kind == 1 {
         return single(x, d, 0);
     }
     if kind == 3 {
-        return with_one(keys, slots, links, done, partner, x, x, d);
+        return with_one(store, done, partner, x, x, d);
     }
     if kind != 2 {
-        let start = start_at(links, t, role, partner);
+        let start = start_at(store, t, role, partner);
         return walking(kind, x, d, start);
     }
     if 1024 <= rules::family_of(code) {
-        return with_one(keys, slots, links, done, partner, 1u64 << (role / 32), x, d);
+        return with_one(store, done, partner, 1u64 << (role / 32), x, d);
     }
     let set = x as u32;
     if u32::count_ones(set) != 1 {
         return single(x, 0, 0);
     }
     let linked = u32::trailing_zeros(set) as usize * 32 + partner;
-    let start = start_at(links, t, role, linked);
+    let start = start_at(store, t, role, linked);
     walking(2, x, d, start)
 }
 
 // The set x in those spans of d in which the entry with the role and the set y is done, if there is one. A role without entries needs no search.
-fn with_one(
-    keys: &[u64; 1024],
-    slots: &[u16; 3072],
-    links: &[u16; 2048],
-    done: &[u64; 1024],
-    role: usize,
-    y: u64,
-    x: u64,
-    d: u64,
-) -> Move
-    requires fact_1 { Leading slots.now }
-    requires fact_2 { (role < 1024) × (y < 4294967296) }
-    ensures { WithOne keys.now slots.now links.now done.now (key_of role y) x d result }
+fn with_one(store: &Store, done: &[u64; 1024], role: usize, y: u64, x: u64, d: u64) -> Move
+    requires leading { Leading store.now.slots }
+    requires low { (role < 1024) × (y < 4294967296) }
+    ensures { WithOne store.now.keys store.now.slots store.now.links done.now (key_of role y) x d result }
 {
-    if store::latest(links, role) == 0 {
+    if store.latest(role) == 0 {
         return single(x, 0, 0);
     }
-    let c = store::entry_of(keys, slots, store::key_of(role, y));
-    if c == 0 {
-        return single(x, 0, 0);
+    match store.entry_of(store::key_of(role, y)) {
+        Some(i) => single(x, d & done[i], (i + 1) as u16),
+        None => single(x, 0, 0),
     }
-    single(x, d & done[c - 1], c as u16)
 }
 
 // One more than the latest entry of the partner's role that can be done, or 0; `role` is that of entry e.
-fn start_at(links: &[u16; 2048], t: Turn, role: usize, partner: usize) -> usize
+fn start_at(store: &Store, t: Turn, role: usize, partner: usize) -> usize
     requires { (partner < 1024) × (t.e < 1024) }
-    ensures { Walking links.now t role partner result }
+    ensures { Walking store.now.links t role partner result }
 {
     if t.last & (role == partner) {
         return t.e + 1;
     }
-    store::latest(links, partner)
+    store.latest(partner)
 }
 
 fn single(set: u64, spans: u64, other: u16) -> Move

@@ -13,7 +13,6 @@ use std::env::Env;
 use std::io::Read;
 use std::rt::Files;
 use std::{fs, io};
-use text::Parsed;
 
 #[derive(Clone, Copy)]
 struct Query {
@@ -23,19 +22,11 @@ struct Query {
     minute: u32,
 }
 
-#[derive(Clone, Copy)]
-enum Request {
-    Query(Query),
-    Unclear,
-}
-
 // Prints a step, and says whether it could. Every step of a proof names a credential of the file.
 fn print_step<O: Print, E: Print>(out: &O, err: &E, file: &[u8], number: u32, s: Step) -> bool {
     match reader::read_credential(file, s.credential as usize) {
         Found::Credential(c) => {
-            let mut line = [0u8; 128];
-            let n = proof_lines::step_line(&mut line, number, s, c);
-            console::write_line(out, err, &line, n)
+            console::write_line(out, err, &proof_lines::step_line(number, s, c))
         }
         Found::End => true,
     }
@@ -51,12 +42,7 @@ fn print_steps<O: Print, E: Print>(
     sets: &[u32; 1024],
     steps: u32,
 ) {
-    let count = steps as usize;
-    let mut i = 0;
-    while i < 1024 {
-        if count <= i {
-            return;
-        }
+    for i in 0..(steps as usize).min(1024) {
         let s = Step {
             credential: credential[i],
             first: first[i],
@@ -66,7 +52,6 @@ fn print_steps<O: Print, E: Print>(
         if !print_step(out, err, file, i as u32, s) {
             return;
         }
-        i += 1;
     }
 }
 
@@ -81,17 +66,12 @@ fn explain<E: Print>(err: &E, file: &[u8], list: &[u8], q: Query, number: u32, p
         explain_list(err, file, list, number);
         return;
     }
-    let mut line = [0u8; 256];
-    let n = request_sentences::request_line(
-        &mut line, file, q.issuer, q.name, q.set, q.minute, number,
-    );
-    console::write_sentence(err, &line, n);
+    let line = request_sentences::request_line(file, q.issuer, q.name, q.set, q.minute, number);
+    console::write_error(err, &line);
 }
 
 fn explain_list<E: Print>(err: &E, file: &[u8], list: &[u8], number: u32) {
-    let mut line = [0u8; 256];
-    let n = list_sentences::list_line(&mut line, file, list, number);
-    console::write_sentence(err, &line, n);
+    console::write_error(err, &list_sentences::list_line(file, list, number));
 }
 
 fn print_proof<O: Print, E: Print>(out: &O, err: &E, file: &[u8], list: &[u8], q: Query) {
@@ -137,39 +117,31 @@ fn role_asked(issuer: u32, name: u32) -> u32
 }
 
 // An argument that is missing or longer than the buffer is empty here, and so no number and no set.
-fn argument<R: Env>(rt: &R, i: usize) -> Parsed {
+fn argument<R: Env>(rt: &R, i: usize) -> Option<u32> {
     let mut word = [0u8; 128];
     let n = console::argument(rt, i, &mut word);
     text::parse(&word[..n])
 }
 
-fn set_argument<R: Env>(rt: &R, i: usize) -> Parsed {
+fn set_argument<R: Env>(rt: &R, i: usize) -> Option<u32> {
     let mut word = [0u8; 128];
     let n = console::argument(rt, i, &mut word);
     match sets::parse_set(&word[..n]) {
-        Parsed::Number(set) => Parsed::Number(set),
-        Parsed::Nothing => text::parse(&word[..n]),
+        Some(set) => Some(set),
+        None => text::parse(&word[..n]),
     }
 }
 
 // There are four arguments or five.
-fn asked<R: Env>(rt: &R) -> Request {
+fn asked<R: Env>(rt: &R) -> Option<Query> {
     if !console::is_given(rt, 4) | console::is_given(rt, 6) {
-        return Request::Unclear;
+        return None;
     }
-    let Parsed::Number(issuer) = argument(rt, 1) else {
-        return Request::Unclear;
-    };
-    let Parsed::Number(name) = argument(rt, 2) else {
-        return Request::Unclear;
-    };
-    let Parsed::Number(set) = set_argument(rt, 3) else {
-        return Request::Unclear;
-    };
-    let Parsed::Number(minute) = argument(rt, 4) else {
-        return Request::Unclear;
-    };
-    Request::Query(Query {
+    let issuer = argument(rt, 1)?;
+    let name = argument(rt, 2)?;
+    let set = set_argument(rt, 3)?;
+    let minute = argument(rt, 4)?;
+    Some(Query {
         issuer,
         name,
         set,
@@ -243,8 +215,8 @@ fn main(rt: HostRuntime) {
     let out = rt.stdout();
     let err = rt.stderr();
     match asked(&rt) {
-        Request::Query(q) => answer(&rt, &mut rt.stdin(), &out, &err, q),
-        Request::Unclear => console::usage(
+        Some(q) => answer(&rt, &mut rt.stdin(), &out, &err, q),
+        None => console::usage(
             &err,
             b"usage: rtt-proof ISSUER NAME SET MINUTE [WITHDRAWALS] < FILE\nNumbers are decimal, up to 4294967295. SET is a set of entities, as '{1,3}', or its number, which has bit e for entity e.\nFILE is a credentials file, WITHDRAWALS a file with a withdrawal list; without it nothing is withdrawn. Prints a proof that the set holds the role at the minute.\n",
         ),

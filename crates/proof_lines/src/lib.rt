@@ -1,11 +1,11 @@
-// Proof steps as lines of text. A function that writes a line returns how many bytes it has, and leaves the bytes after it as they were.
+// Proof steps as lines of text.
 #![tactic(auto)]
 
-ghost use Rattle.std.specs.Prelude.{◌≡◌, [], ◌∷◌, ◌+◌, ◌≤◌, length, take};
-ghost use Rattle.text.specs.Lines.{Put, Lined};
+ghost use Rattle.std.specs.Prelude.{◌≡◌, [], ◌∷◌, ◌++◌, ◌+◌, ◌≤◌, length, take};
 ghost use Rattle.proof_lines.specs.StepLines.{membership_text, cited_by, from_text, step_line};
 
 use file::{Body, Credential, Role};
+use text::Text;
 
 // The four words of a proof step.
 #[derive(Clone, Copy)]
@@ -17,28 +17,28 @@ pub struct Step {
 }
 
 // Number, what the step shows, by which credential, from which steps. c is the credential that the step names.
-pub fn step_line(out: &mut [u8; 128], number: u32, s: Step, c: Credential) -> usize
-    ensures { Lined out.old out.new result (step_line number s c) }
+pub fn step_line(number: u32, s: Step, c: Credential) -> Text<128>
+    ensures { result ≡ step_line number s c }
 {
-    let body = c.body;
-    let colon = text::put_field(out, 0, number, b':');
-    let shown_at = text::put_byte(out, colon, b' ');
-    let by = put_membership(out, shown_at, c.head, s.set);
-    let credential_at = text::put_bytes(out, by, b"by credential ");
-    let cited_at = text::put_decimal(out, credential_at, s.credential);
-    put_cited(out, cited_at, cites(body), s.first, s.second)
+    let mut out = Text::new();
+    out.put_field(number, b':');
+    out.put_byte(b' ');
+    put_membership(&mut out, c.head, s.set);
+    out.put_bytes(b"by credential ");
+    out.put_decimal(s.credential);
+    put_cited(&mut out, cites(c.body), s.first, s.second);
+    out
 }
 
-// Each private function writes at `at` and returns the next place. What stands before `at` and from that place on stays.
-
 // Issuer, name, set.
-fn put_membership(out: &mut [u8], at: usize, role: Role, set: u32) -> usize
-    requires { at + 33 ≤ length out.old }
-    ensures { Put out.old out.new at result 33 (membership_text role set) }
+fn put_membership(out: &mut Text<128>, role: Role, set: u32)
+    requires { length out.old + 33 ≤ 128 }
+    ensures text { out.new ≡ out.old ++ membership_text role set }
+    ensures within { length out.new ≤ length out.old + 33 }
 {
-    let name_at = text::put_field(out, at, role.issuer.0 as u32, b' ');
-    let set_at = text::put_field(out, name_at, role.name.0 as u32, b' ');
-    text::put_field(out, set_at, set, b' ')
+    out.put_field(role.issuer.0 as u32, b' ');
+    out.put_field(role.name.0 as u32, b' ');
+    out.put_field(set, b' ');
 }
 
 // How many steps a step of this body cites.
@@ -48,25 +48,25 @@ fn cites(body: Body) -> u32
     match body {
         Body::Set(_) => 0,
         Body::Inclusion(_) => 1,
-        Body::Linked(_, _) => 2,
-        Body::Intersection(_, _) => 2,
-        Body::Union(_, _) => 2,
-        Body::Disjoint(_, _) => 2,
+        Body::Linked(_, _) | Body::Intersection(_, _) | Body::Union(_, _) | Body::Disjoint(_, _) =>
+            2,
     }
 }
 
 // The first `count` of two cited steps.
-fn put_cited(out: &mut [u8], at: usize, count: u32, first: u32, second: u32) -> usize
-    requires { at + 28 ≤ length out.old }
-    ensures { Put out.old out.new at result 28 (from_text (take count (first ∷ second ∷ []))) }
+fn put_cited(out: &mut Text<128>, count: u32, first: u32, second: u32)
+    requires { length out.old + 28 ≤ 128 }
+    ensures text { out.new ≡ out.old ++ from_text (take count (first ∷ second ∷ [])) }
 {
     if count == 0 {
-        return text::put_byte(out, at, b'\n');
+        out.put_byte(b'\n');
+        return;
     }
-    let first_at = text::put_bytes(out, at, b" from ");
+    out.put_bytes(b" from ");
     if count == 1 {
-        return text::put_field(out, first_at, first, b'\n');
+        out.put_field(first, b'\n');
+        return;
     }
-    let second_at = text::put_field(out, first_at, first, b' ');
-    text::put_field(out, second_at, second, b'\n')
+    out.put_field(first, b' ');
+    out.put_field(second, b'\n');
 }

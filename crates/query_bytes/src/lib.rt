@@ -1,7 +1,7 @@
 // Querying on bytes: the steps are written straight into the lent bytes.
 #![tactic(auto)]
 
-ghost use Rattle.std.specs.Prelude.{◌≡◌, ◌++◌, map, ◌-◌, ◌*◌, ◌≤◌, ◌<◌, length, get_or, take, replicate};
+ghost use Rattle.std.specs.Prelude.{◌≡◌, ◌++◌, map, ◌-◌, ◌*◌, ◌≤◌, ◌<◌, length, get_or, replicate};
 ghost use Rattle.meaning.specs.Lists.{below};
 ghost use Rattle.store.specs.Entries.{set_in};
 ghost use Rattle.store.specs.Notes.{word as word_of};
@@ -16,6 +16,7 @@ ghost use Rattle.withdrawals.specs.Source.{◌without◌};
 ghost use Rattle.query_bytes.specs.Interface.{steps_and_level, QueriedBytes};
 
 use querying::Answer;
+use store::Store;
 
 // Lists of the bytes of n entries each.
 pub fn query(
@@ -33,21 +34,8 @@ pub fn query(
     requires { StepSizes (step_lists credential.old first.old second.old sets.old) n }
     ensures { QueriedBytes (file.now without withdrawals.now) (request role set minute) (step_lists credential.old first.old second.old sets.old) result (step_lists credential.new first.new second.new sets.new) }
 {
-    let mut keys = store::room_for_keys();
-    let mut notes = store::room_for_notes();
-    let answer = querying::prove(
-        &mut keys,
-        &mut notes,
-        file,
-        withdrawals,
-        role,
-        set,
-        minute,
-        n,
-        n,
-        n,
-        n,
-    );
+    let mut store = Store::new();
+    let answer = querying::prove(&mut store, file, withdrawals, role, set, minute, n, n, n, n);
     if !querying::lists_written(answer) {
         return number_of(answer);
     }
@@ -56,8 +44,7 @@ pub fn query(
         first,
         second,
         sets,
-        &keys,
-        &notes,
+        &store,
         querying::steps_of(answer),
         n,
     );
@@ -70,72 +57,45 @@ fn write(
     first: &mut [u8],
     second: &mut [u8],
     sets: &mut [u8],
-    keys: &[u64; 1024],
-    notes: &[u16; 3072],
+    store: &Store,
     count: usize,
     n: usize,
 )
-    requires fact_1 { StepSizes (step_lists credential.old first.old second.old sets.old) n }
-    requires fact_2 { count ≤ n }
-    ensures fact_1 { credential.new ≡ bytes_of 4 (words (λ s. s.credential) n (steps_in keys.now notes.now count)) }
-    ensures fact_2 { first.new ≡ bytes_of 4 (words (λ s. s.first) n (steps_in keys.now notes.now count)) }
-    ensures fact_3 { second.new ≡ bytes_of 4 (words (λ s. s.second) n (steps_in keys.now notes.now count)) }
-    ensures fact_4 { sets.new ≡ bytes_of 4 (words (λ s. s.set) n (steps_in keys.now notes.now count)) }
+    requires sizes { StepSizes (step_lists credential.old first.old second.old sets.old) n }
+    requires few { count ≤ n }
+    ensures credential { credential.new ≡ bytes_of 4 (words (λ s. s.credential) n (steps_in store.now.keys store.now.notes count)) }
+    ensures first { first.new ≡ bytes_of 4 (words (λ s. s.first) n (steps_in store.now.keys store.now.notes count)) }
+    ensures second { second.new ≡ bytes_of 4 (words (λ s. s.second) n (steps_in store.now.keys store.now.notes count)) }
+    ensures sets { sets.new ≡ bytes_of 4 (words (λ s. s.set) n (steps_in store.now.keys store.now.notes count)) }
 {
-    put_words(credential, notes, 0, count, n);
-    put_words(first, notes, 1, count, n);
-    put_words(second, notes, 2, count, n);
-    put_sets(sets, keys, count, n);
+    put_words(credential, store, 0, count, n);
+    put_words(first, store, 1, count, n);
+    put_words(second, store, 2, count, n);
+    put_sets(sets, store, count, n);
 }
 
 // A column of the notes as bytes of n entries, zeros after the first `count`.
-fn put_words(list: &mut [u8], notes: &[u16; 3072], column: usize, count: usize, n: usize)
+fn put_words(list: &mut [u8], store: &Store, column: usize, count: usize, n: usize)
     requires { (length list.old ≡ 4 * n) × (count ≤ n) × (n ≤ 1024) × (column < 3) }
-    ensures { list.new ≡ bytes_of 4 (map (λ i. word_of notes.now i column) (below count) ++ replicate (n - count) 0) }
+    ensures { list.new ≡ bytes_of 4 (map (λ i. word_of store.now.notes i column) (below count) ++ replicate (n - count) 0) }
 {
-    let mut i = 0;
-    while i < count {
+    for i in 0..count {
         let at = 4 * i;
-        codec::put(
-            &mut list[at..at + 4],
-            store::wide(notes[1024 * column + i]) as u64,
-        );
-        i += 1;
+        codec::put(&mut list[at..at + 4], store.notes[1024 * column + i] as u64);
     }
-    clear_tail(list, 4 * count);
+    list[4 * count..].fill(0);
 }
 
 // The sets of the keys as bytes of n entries, zeros after the first `count`.
-fn put_sets(list: &mut [u8], keys: &[u64; 1024], count: usize, n: usize)
+fn put_sets(list: &mut [u8], store: &Store, count: usize, n: usize)
     requires { (length list.old ≡ 4 * n) × (count ≤ n) × (n ≤ 1024) }
-    ensures { list.new ≡ bytes_of 4 (map (λ i. set_in (get_or keys.now i 0)) (below count) ++ replicate (n - count) 0) }
+    ensures { list.new ≡ bytes_of 4 (map (λ i. set_in (get_or store.now.keys i 0)) (below count) ++ replicate (n - count) 0) }
 {
-    let mut i = 0;
-    while i < count {
+    for i in 0..count {
         let at = 4 * i;
-        codec::put(&mut list[at..at + 4], store::set_of(keys[i]));
-        i += 1;
+        codec::put(&mut list[at..at + 4], store::set_of(store.keys[i]));
     }
-    clear_tail(list, 4 * count);
-}
-
-// Sets bytes to zero from place k on.
-fn clear_tail(list: &mut [u8], k: usize)
-    requires { k ≤ length list.old }
-    ensures { list.new ≡ take k list.old ++ replicate (length list.old - k) 0 }
-{
-    clear(&mut list[k..]);
-}
-
-// Sets every byte to zero.
-fn clear(list: &mut [u8])
-    ensures { list.new ≡ replicate (length list.old) 0 }
-{
-    let mut i = 0;
-    while i < list.len() {
-        list[i] = 0;
-        i += 1;
-    }
+    list[4 * count..].fill(0);
 }
 
 fn number_of(answer: Answer) -> u64

@@ -1,12 +1,15 @@
 // Querying: a proof of least level for one role, set and minute, or a refusal.
 #![tactic(auto)]
 
-ghost use Rattle.std.specs.Prelude.{◌≡◌, replicate};
+ghost use Rattle.std.specs.Prelude.{◌≡◌};
+ghost use Rattle.store.specs.Store.{blank};
 ghost use Rattle.file.specs.Refusals.{done, refused, writes};
 ghost use Rattle.asking.specs.Asking.{request, StepLists, step_lists, Sized};
 ghost use Rattle.withdrawals.specs.Source.{◌without◌};
 ghost use Rattle.querying.specs.Querying.{counts, Queried, says_answer};
 ghost use Rattle.querying.specs.Working.{Proves, step_count};
+
+use store::Store;
 
 // How many steps the proof has, and its level; or a refusal.
 #[derive(Clone, Copy)]
@@ -29,11 +32,9 @@ pub fn query(
 ) -> Answer
     ensures { Queried (file.now without withdrawals.now) (request role set minute) (step_lists credential.old first.old second.old sets.old) (says_answer result) (step_lists credential.new first.new second.new sets.new) }
 {
-    let mut keys = store::room_for_keys();
-    let mut notes = store::room_for_notes();
+    let mut store = Store::new();
     let answer = prove(
-        &mut keys,
-        &mut notes,
+        &mut store,
         file,
         withdrawals,
         role,
@@ -47,22 +48,13 @@ pub fn query(
     if !lists_written(answer) {
         return answer;
     }
-    answering::write(
-        credential,
-        first,
-        second,
-        sets,
-        &keys,
-        &notes,
-        steps_of(answer),
-    );
+    answering::write(credential, first, second, sets, &store, steps_of(answer));
     answer
 }
 
-// A proof of the membership at the minute for lists of so many steps: its steps are then the first places of keys and notes, which are zeros before.
+// A proof of the membership at the minute for lists of so many steps: its steps are then the first places of the keys and the notes of a store that has no entries before.
 pub fn prove(
-    keys: &mut [u64; 1024],
-    notes: &mut [u16; 3072],
+    store: &mut Store,
     file: &[u8],
     withdrawals: &[u8],
     role: u32,
@@ -73,12 +65,11 @@ pub fn prove(
     second: usize,
     sets: usize,
 ) -> Answer
-    requires { (keys.old ≡ replicate 1024 0) × (notes.old ≡ replicate 3072 0) }
-    ensures { (t : StepLists) → Sized t credential first second sets → Proves (file.now without withdrawals.now) (request role set minute) t keys.new notes.new (says_answer result) }
+    requires { store.old ≡ blank }
+    ensures { (t : StepLists) → Sized t credential first second sets → Proves (file.now without withdrawals.now) (request role set minute) t store.new.keys store.new.notes (says_answer result) }
 {
     let found = finding::find(
-        keys,
-        notes,
+        store,
         file,
         withdrawals,
         role,
@@ -92,7 +83,7 @@ pub fn prove(
     if found.number != 0 {
         return refused(found.number, found.place);
     }
-    let count = answering::keep(keys, notes, found.entry);
+    let count = answering::keep(store, found.entry);
     proof(count as u32, found.level)
 }
 

@@ -1,10 +1,9 @@
-// What a refusal of a request means, as a line of text in a buffer of 256 bytes. It takes any bytes and numbers; what it says is so where a call gave
+// What a refusal of a request means, as a line of text of at most 256 bytes. It takes any bytes and numbers; what it says is so where a call gave
 // that refusal for them, of 10 a call with lists of 1,024 entries.
 #![tactic(auto)]
 
 ghost use Rattle.std.specs.Prelude.{◌≡◌, ◌-◌};
 ghost use Rattle.meaning.specs.Lists.{up_from};
-ghost use Rattle.text.specs.Lines.{LinedIn};
 ghost use Rattle.sets.specs.Sets.{has};
 ghost use Rattle.sentences.specs.Words.{first_of};
 ghost use Rattle.sentences.specs.Filling.{sentence};
@@ -12,22 +11,21 @@ ghost use Rattle.request_sentences.specs.RequestWords.{request_words};
 ghost use Rattle.request_sentences.specs.RequestSentences.{asked_text, request_text, request_sentence};
 
 use sentences::Sentence;
+use text::Text;
 
-// The line of a refusal of a request over a file: 10 to 13. Returns how many bytes it has, and leaves the bytes after it as they were.
+// The line of a refusal of a request over a file: 10 to 13.
 pub fn request_line(
-    out: &mut [u8; 256],
     file: &[u8],
     issuer: u32,
     name: u32,
     set: u32,
     minute: u32,
     number: u32,
-) -> usize
-    ensures { LinedIn 256 out.old out.new result (request_sentence file.now issuer name set minute number) }
+) -> Text<256>
+    ensures { result ≡ request_sentence file.now issuer name set minute number }
 {
     let s = said(file, issuer, name, set, minute, number);
-    sentences::put_sentence(
-        out,
+    sentences::filled_line(
         b"refused\n\
         issuer #, the file has # {entity|entities}\n\
         role name #, the file has # {role name|role names}\n\
@@ -76,12 +74,10 @@ fn asked(file: &[u8], issuer: u32, name: u32, set: u32) -> Sentence
 fn first_from(set: u32, from: u32) -> u32
     ensures { result ≡ first_of (has set) (up_from from (32 - from)) }
 {
-    let mut e = from;
-    while e < 32 {
+    for e in from..32 {
         if (set >> e) % 2 == 1 {
             return e;
         }
-        e += 1;
     }
     0
 }

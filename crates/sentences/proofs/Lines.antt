@@ -8,7 +8,7 @@ use native.Mathlib.Omega.{arith}
 use borrow.Author.Tests.{eq-eqb, ne_eqb}
 use lib.Dec.{eqb}
 use lib.ListN.{length, get_or, drop, drop_of_length-le}
-use lib.Seq.{drop-cons}
+use lib.Seq.{drop-cons, drop-length}
 use Rattle.meaning.specs.Lists.{if}
 use Rattle.sentences.specs.Filling.{line_from}
 
@@ -33,5 +33,5 @@ none zero = refl
 none (suc n) = refl
 
 -- no line begins after the end
-pub past_end : (w : List ℕ) (n i : ℕ) → length w ≤ i → drop i w ≡ line_from n (drop i w)
-past_end w n i h = let e : drop i w ≡ [] = drop_of_length-le w h in e ∙ sym (ap (line_from n) e ∙ none n)
+pub past_end : (w : List ℕ) (n i : ℕ) → length w ≤ i → drop (length w) w ≡ line_from n (drop i w)
+past_end w n i h = drop-length w ∙ sym (ap (line_from n) (drop_of_length-le w h) ∙ none n)

@@ -1,11 +1,12 @@
-// Sentences: lines in a buffer of 256 bytes, made of words with places for numbers. Also the numbers of one, two and four bytes that a file holds.
+// Sentences: lines of at most 256 bytes, made of words with places for numbers. Also the numbers of one, two and four bytes that a file holds.
 #![tactic(auto)]
 
-ghost use Rattle.std.specs.Prelude.{◌≡◌, true, ◌++◌, ◌+◌, ◌≤◌, ◌<◌, drop};
+ghost use Rattle.std.specs.Prelude.{◌≡◌, true, ◌++◌, ◌+◌, ◌≤◌, ◌<◌, drop, length};
 ghost use Rattle.text.specs.Ascii.{ascii};
-ghost use Rattle.text.specs.Lines.{Put, LinedIn};
 ghost use Rattle.file.specs.Format.{byte, two, four};
 ghost use Rattle.sentences.specs.Filling.{beginning, piece, turned, next, filled, line_from, sentence, most, fitting};
+
+use text::Text;
 
 // A line of some words, counted from 0, and the numbers in it.
 #[derive(Clone, Copy)]
@@ -22,16 +23,16 @@ struct Filling {
     d: u32,
 }
 
-// Puts a line of the words, filled with numbers, and a newline, and returns how many bytes these are; the bytes after them stay. In the words `#` stands
-// for the next number in decimal, `@` for the next one as a set in braces, and `{one|many}` for `one` where the number before it is 1, otherwise for `many`;
-// a place for a number inside it is filled in both cases.
-pub fn put_sentence(out: &mut [u8; 256], words: &[u8], s: Sentence) -> usize
+// A line of the words, filled with numbers, and a newline. In the words `#` stands for the next number in decimal, `@` for the next one as a set in braces, and
+// `{one|many}` for `one` where the number before it is 1, otherwise for `many`; a place for a number inside it is filled in both cases.
+pub fn filled_line(words: &[u8], s: Sentence) -> Text<256>
     requires { fitting 255 words.now ≡ true }
-    ensures { LinedIn 256 out.old out.new result (sentence words.now s ++ ascii "\n") }
+    ensures { result ≡ sentence words.now s ++ ascii "\n" }
 {
     let from = line_at(words, s.0);
-    let end = put_filled(out, words, from, start(s));
-    text::put_byte(out, end, b'\n')
+    let mut out = put_filled(&words[from..], start(s));
+    out.put_byte(b'\n');
+    out
 }
 
 // The byte at p; 0 after the end.
@@ -81,57 +82,56 @@ fn start(s: Sentence) -> Filling
 
 // Where a line begins.
 fn line_at(words: &[u8], line: u32) -> usize
-    ensures { drop result words.now ≡ line_from line words.now }
+    ensures at { drop result words.now ≡ line_from line words.now }
+    ensures within { result ≤ length words.now }
 {
     let mut left = line;
-    let mut i = 0;
-    while i < words.len() {
+    for i in 0..words.len() {
         if left == 0 {
             return i;
         }
         if words[i] == b'\n' {
             left -= 1;
         }
-        i += 1;
     }
-    i
+    words.len()
 }
 
-// The words from a place up to the end of the line.
-fn put_filled(out: &mut [u8; 256], words: &[u8], from: usize, start: Filling) -> usize
-    requires { fitting 255 (drop from words.now) ≡ true }
-    ensures { Put out.old out.new 0 result 255 (filled start (drop from words.now)) }
+// The words up to the end of the line.
+fn put_filled(words: &[u8], start: Filling) -> Text<256>
+    requires { fitting 255 words.now ≡ true }
+    ensures text { result ≡ filled start words.now }
+    ensures within { length result ≤ 255 }
 {
+    let mut out = Text::new();
     let mut s = start;
-    let mut at = 0;
-    let mut i = from;
-    while i < words.len() {
-        let c = words[i];
-        if c == b'\n' {
-            return at;
+    for c in words {
+        if *c == b'\n' {
+            return out;
         }
-        at = put_piece(out, at, s, c);
-        s = after(s, c);
-        i += 1;
+        put_piece(&mut out, s, *c);
+        s = after(s, *c);
     }
-    at
+    out
 }
 
 // What one byte of the words puts.
-fn put_piece(out: &mut [u8; 256], at: usize, s: Filling, c: u8) -> usize
-    requires { at + most c ≤ 256 }
-    ensures { Put out.old out.new at result (most c) (piece s c) }
+fn put_piece(out: &mut Text<256>, s: Filling, c: u8)
+    requires { length out.old + most c ≤ 256 }
+    ensures text { out.new ≡ out.old ++ piece s c }
+    ensures within { length out.new ≤ length out.old + most c }
 {
     if c == b'#' {
-        return text::put_decimal(out, at, s.a);
+        out.put_decimal(s.a);
+        return;
     }
     if c == b'@' {
-        return sets::put_set(out, at, s.a);
+        sets::put_set(out, s.a);
+        return;
     }
     if s.on & !((b'{' <= c) & (c <= b'}')) {
-        return text::put_byte(out, at, c);
+        out.put_byte(c);
     }
-    at
 }
 
 // Where filling stands after one byte of the words.

@@ -1,5 +1,5 @@
 -- Reading a list of entities from the left: those up to the last comma are in the set, and what is left says the rest.
-use mathlib.Core.Path.{◌≡◌, refl, sym, ap, ap₂, ◌∙◌}
+use mathlib.Core.Path.{◌≡◌, sym, ap, ap₂, ◌∙◌}
 use mathlib.Core.Bool.{Bool, true, cond, ◌&&◌}
 use mathlib.Core.List.{List, [], ◌∷◌, ◌++◌}
 use Prim.Native.Nat.{ℕ, suc, ◌+◌, ◌-◌, ◌≤◌, ◌<◌}
@@ -7,12 +7,11 @@ use native.Mathlib.Numerals.{add-one}
 use native.Mathlib.Omega.{arith}
 use borrow.Author.Tests.{eq-eqb, ne_eqb, le-leb, lt-leb}
 use lib.Dec.{eqb}
-use lib.ListN.{length, take, drop, get_or, length-drop, drop_of_length-le}
+use lib.ListN.{length, take, drop, get_or, length-drop}
 use lib.Seq.{take-suc, drop-cons, get_or-drop}
 use Rattle.text.specs.Numbers.{number_in}
 use Rattle.sets.specs.Sets.{with_entity, and_then, with_list, set_in}
-use Rattle.text.specs.declared.Parsed.{Parsed}
-use Rattle.text.specs.declared.Parsed.TheVariants.{Number, Nothing}
+use Rattle.std.specs.Prelude.{Option, Some, None}
 
 -- the bytes from one place up to another
 abbrev pub part : List ℕ → ℕ → ℕ → List ℕ
@@ -24,19 +23,11 @@ pub record Scanned (s : List ℕ) (X from i : ℕ) : Type 0 where
   pub within : i ≤ length s
   pub says : with_list 0 [] s ≡ with_list X (part s from i) (drop i s)
 
-pub starts : (s : List ℕ) → Scanned s 0 0 0
-starts s = record { order = omega arith; within = omega arith; says = refl }
-
 -- by whether the byte is a comma
-abbrev after : Bool → ℕ → List ℕ → ℕ → List ℕ → Parsed
+abbrev after : Bool → ℕ → List ℕ → ℕ → List ℕ → Option ℕ
 after comma X p b s = cond comma (and_then (with_entity X (number_in p)) (λ Y. with_list Y [] s)) (with_list X (p ++ b ∷ []) s)
 
 module _ {s : List ℕ} {X from i : ℕ} (p : Scanned s X from i) where
-  pub ended : length s ≤ i → with_list 0 [] s ≡ with_entity X (number_in (part s from (length s)))
-  ended h =
-      let n : i ≡ length s = omega (arith, p.within) in
-      p.says ∙ ap (with_list X (part s from i)) (drop_of_length-le s h) ∙ ap (λ (k : ℕ). with_entity X (number_in (part s from k))) n
-
   module _ (h : i < length s) where
     here : with_list 0 [] s ≡ after (eqb (get_or s i 0) 44) X (part s from i) (get_or s i 0) (drop (i + 1) s)
     here =
@@ -54,10 +45,7 @@ module _ {s : List ℕ} {X from i : ℕ} (p : Scanned s X from i) where
     comma : get_or s i 0 ≡ 44 → with_list 0 [] s ≡ and_then (with_entity X (number_in (part s from i))) (λ Y. with_list Y [] (drop (i + 1) s))
     comma e = here ∙ ap (λ (b : Bool). after b X (part s from i) (get_or s i 0) (drop (i + 1) s)) (eq-eqb _ _ e)
 
-    pub stopped : get_or s i 0 ≡ 44 → with_entity X (number_in (part s from i)) ≡ Nothing → with_list 0 [] s ≡ Nothing
-    stopped e n = comma e ∙ ap (λ (q : Parsed). and_then q (λ Y. with_list Y [] (drop (i + 1) s))) n
-
-    pub taken : {Y : ℕ} → get_or s i 0 ≡ 44 → with_entity X (number_in (part s from i)) ≡ Number Y → Scanned s Y (i + 1) (i + 1)
+    pub taken : {Y : ℕ} → get_or s i 0 ≡ 44 → with_entity X (number_in (part s from i)) ≡ Some Y → Scanned s Y (i + 1) (i + 1)
     taken {Y} e n =
         let z : i + 1 - (i + 1) ≡ 0 = omega arith in
         record {
@@ -65,7 +53,7 @@ module _ {s : List ℕ} {X from i : ℕ} (p : Scanned s X from i) where
           within = omega arith;
           says =
               comma e
-              ∙ ap (λ (q : Parsed). and_then q (λ Y. with_list Y [] (drop (i + 1) s))) n
+              ∙ ap (λ (q : Option ℕ). and_then q (λ Y. with_list Y [] (drop (i + 1) s))) n
               ∙ ap (λ (k : ℕ). with_list Y (take k (drop (i + 1) s)) (drop (i + 1) s)) (sym z);
         }
 
@@ -81,21 +69,21 @@ module _ {s : List ℕ} {X from i : ℕ} (p : Scanned s X from i) where
         }
 
 -- by the three tests of braces
-abbrev by : Bool → Bool → Bool → List ℕ → Parsed
-by long first last s = cond (long && first && last) (with_list 0 [] (take (length s - 2) (drop 1 s))) Nothing
+abbrev by : Bool → Bool → Bool → List ℕ → Option ℕ
+by long first last s = cond (long && first && last) (with_list 0 [] (take (length s - 2) (drop 1 s))) None
 
 module _ (s : List ℕ) where
-  pub short : length s < 2 → set_in s ≡ Nothing
+  pub short : length s < 2 → set_in s ≡ None
   unfolding set_in
   short h = ap (λ (b : Bool). by b (eqb (get_or s 0 0) 123) (eqb (get_or s (length s - 1) 0) 125) s) (lt-leb _ _ h)
 
   module _ (h : 2 ≤ length s) where
-    pub not_opened : (get_or s 0 0 ≡ 123 → ⊥) → set_in s ≡ Nothing
+    pub not_opened : (get_or s 0 0 ≡ 123 → ⊥) → set_in s ≡ None
     unfolding set_in
     not_opened e = ap₂ (λ (a b : Bool). by a b (eqb (get_or s (length s - 1) 0) 125) s) (le-leb _ _ h) (ne_eqb _ _ e)
 
     module _ (e : get_or s 0 0 ≡ 123) where
-      pub not-closed : (get_or s (length s - 1) 0 ≡ 125 → ⊥) → set_in s ≡ Nothing
+      pub not-closed : (get_or s (length s - 1) 0 ≡ 125 → ⊥) → set_in s ≡ None
       unfolding set_in
       not-closed c =
           ap₂ (λ (a b : Bool). by a b (eqb (get_or s (length s - 1) 0) 125) s) (le-leb _ _ h) (eq-eqb _ _ e)

@@ -14,34 +14,33 @@ use lib.Seq.{take_at, get_or_at}
 use Rattle.text.specs.Lines.{decimal}
 use Rattle.text.specs.Numbers.{digit, all_digits, number_in}
 use Rattle.sets.specs.Sets.{has, entities_below, listed, set_text, with_entity, and_then, with_list, set_in}
-use Rattle.text.specs.declared.Parsed.{Parsed}
-use Rattle.text.specs.declared.Parsed.TheVariants.{Number, Nothing}
+use Rattle.std.specs.Prelude.{Option, Some, None}
 use Rattle.text.proofs.Numbers.{both, digit-bounds}
 use Rattle.text.proofs.Reading.{decimal-read, decimal-digits}
 use Rattle.sets.proofs.Scanning.{part, in-braces}
 
-then_same : {g h : ℕ → Parsed} (q : Parsed) → ((Y : ℕ) → g Y ≡ h Y) → and_then q g ≡ and_then q h
-then_same (Number Y) e = e Y
-then_same Nothing e = refl
+then_same : {g h : ℕ → Option ℕ} (q : Option ℕ) → ((Y : ℕ) → g Y ≡ h Y) → and_then q g ≡ and_then q h
+then_same (Some Y) e = e Y
+then_same None e = refl
 
-then-number : (q : Parsed) → and_then q Number ≡ q
-then-number (Number Y) = refl
-then-number Nothing = refl
+then-number : (q : Option ℕ) → and_then q Some ≡ q
+then-number (Some Y) = refl
+then-number None = refl
 
-then-then : (g h : ℕ → Parsed) (q : Parsed) → and_then q (λ Y. and_then (g Y) h) ≡ and_then (and_then q g) h
-then-then g h (Number Y) = refl
-then-then g h Nothing = refl
+then-then : (g h : ℕ → Option ℕ) (q : Option ℕ) → and_then q (λ Y. and_then (g Y) h) ≡ and_then (and_then q g) h
+then-then g h (Some Y) = refl
+then-then g h None = refl
 
 -- X with the entities of a list, one after the other
-abbrev gathered : ℕ → List ℕ → Parsed
-gathered X [] = Number X
-gathered X (e ∷ l) = and_then (with_entity X (Number e)) (λ Y. gathered Y l)
+abbrev gathered : ℕ → List ℕ → Option ℕ
+gathered X [] = Some X
+gathered X (e ∷ l) = and_then (with_entity X (Some e)) (λ Y. gathered Y l)
 
-gathered-end : (X e : ℕ) (l : List ℕ) → gathered X (l ++ e ∷ []) ≡ and_then (gathered X l) (λ Y. with_entity Y (Number e))
-gathered-end X e [] = then-number (with_entity X (Number e))
+gathered-end : (X e : ℕ) (l : List ℕ) → gathered X (l ++ e ∷ []) ≡ and_then (gathered X l) (λ Y. with_entity Y (Some e))
+gathered-end X e [] = then-number (with_entity X (Some e))
 gathered-end X e (x ∷ l) =
-    then_same (with_entity X (Number x)) (λ Y. gathered-end Y e l)
-    ∙ then-then (λ Y. gathered Y l) (λ Y. with_entity Y (Number e)) (with_entity X (Number x))
+    then_same (with_entity X (Some x)) (λ Y. gathered-end Y e l)
+    ∙ then-then (λ Y. gathered Y l) (λ Y. with_entity Y (Some e)) (with_entity X (Some x))
 
 -- digits are no comma
 digits-pass : (X : ℕ) (p s rest : List ℕ) → all_digits s ≡ true → with_list X p (s ++ rest) ≡ with_list X (p ++ s) rest
@@ -58,7 +57,7 @@ abbrev AllBelow : ℕ → List ℕ → Type 0
 AllBelow n [] = Unit {0}
 AllBelow n (x ∷ l) = (x < n) × AllBelow n l
 
-entity-read : (X e : ℕ) → e < 32 → with_entity X (number_in (decimal e)) ≡ with_entity X (Number e)
+entity-read : (X e : ℕ) → e < 32 → with_entity X (number_in (decimal e)) ≡ with_entity X (Some e)
 entity-read X e h = ap (with_entity X) (decimal-read e (omega arith))
 
 list_read : (X e : ℕ) (l : List ℕ) → AllBelow 32 (e ∷ l) → with_list X [] (listed (e ∷ l)) ≡ gathered X (e ∷ l)
@@ -66,12 +65,12 @@ list_read X e [] h =
     ap (with_list X []) (sym (append-nil (decimal e)))
     ∙ digits-pass X [] (decimal e) [] (decimal-digits e (omega arith))
     ∙ entity-read X e h.0
-    ∙ sym (then-number (with_entity X (Number e)))
+    ∙ sym (then-number (with_entity X (Some e)))
 list_read X e (f ∷ l) h =
     ap (with_list X []) (append_assoc (decimal e) (44 ∷ []) (listed (f ∷ l)))
     ∙ digits-pass X [] (decimal e) (44 ∷ listed (f ∷ l)) (decimal-digits e (omega arith))
-    ∙ ap (λ (q : Parsed). and_then q (λ Y. with_list Y [] (listed (f ∷ l)))) (entity-read X e h.0)
-    ∙ then_same (with_entity X (Number e)) (λ Y. list_read Y f l h.1)
+    ∙ ap (λ (q : Option ℕ). and_then q (λ Y. with_list Y [] (listed (f ∷ l)))) (entity-read X e h.0)
+    ∙ then_same (with_entity X (Some e)) (λ Y. list_read Y f l h.1)
 
 below_end : (n e : ℕ) (l : List ℕ) → AllBelow n l → e < n → AllBelow n (l ++ e ∷ [])
 below_end n e [] h k = (k, tt)
@@ -93,41 +92,41 @@ module _ (X n : ℕ) (k : n < 32) where
   absent : has (X % 2 ^ n) n ≡ false
   absent = ap (λ (d : ℕ). eqb (d % 2) 1) (div-eq_of_lt low)
 
-  taken : with_entity (X % 2 ^ n) (Number n) ≡ Number (1 * 2 ^ n + X % 2 ^ n)
+  taken : with_entity (X % 2 ^ n) (Some n) ≡ Some (1 * 2 ^ n + X % 2 ^ n)
   taken =
       let o : bit_or (X % 2 ^ n) (1 * 2 ^ n) ≡ 1 * 2 ^ n + X % 2 ^ n = or_shifted_r 1 n (X % 2 ^ n) low in
       let p : 1 * 2 ^ n ≡ 2 ^ n = omega arith in
-      ap₂ (λ (a b : Bool). cond (a && not b) (Number (bit_or (X % 2 ^ n) (2 ^ n))) Nothing) (lt-ltb n 32 k) absent
-      ∙ ap (λ (q : ℕ). Number (bit_or (X % 2 ^ n) q)) (sym p)
-      ∙ ap Number o
+      ap₂ (λ (a b : Bool). cond (a && not b) (Some (bit_or (X % 2 ^ n) (2 ^ n))) None) (lt-ltb n 32 k) absent
+      ∙ ap (λ (q : ℕ). Some (bit_or (X % 2 ^ n) q)) (sym p)
+      ∙ ap Some o
 
   zero_high : X % 2 ^ n ≡ 0 * 2 ^ n + X % 2 ^ n
   zero_high = omega arith
 
-  step_by : (b : Bool) (d : ℕ) → eqb d 1 ≡ b → d < 2 → gathered 0 (entities_below n X) ≡ Number (X % 2 ^ n)
-      → gathered 0 (entities_below n X ++ cond b (n ∷ []) []) ≡ Number (d * 2 ^ n + X % 2 ^ n)
+  step_by : (b : Bool) (d : ℕ) → eqb d 1 ≡ b → d < 2 → gathered 0 (entities_below n X) ≡ Some (X % 2 ^ n)
+      → gathered 0 (entities_below n X ++ cond b (n ∷ []) []) ≡ Some (d * 2 ^ n + X % 2 ^ n)
   step_by true d e h p =
       let one : 1 ≡ d = sym (eqb-true d 1 e) in
       gathered-end 0 n (entities_below n X)
-      ∙ ap (λ (q : Parsed). and_then q (λ Y. with_entity Y (Number n))) p
+      ∙ ap (λ (q : Option ℕ). and_then q (λ Y. with_entity Y (Some n))) p
       ∙ taken
-      ∙ ap (λ (c : ℕ). Number (c * 2 ^ n + X % 2 ^ n)) one
+      ∙ ap (λ (c : ℕ). Some (c * 2 ^ n + X % 2 ^ n)) one
   step_by false d e h p =
       let other = eqb-false d 1 e in
       let none : 0 ≡ d = omega (arith, other) in
       ap (gathered 0) (append-nil (entities_below n X))
       ∙ p
-      ∙ ap Number zero_high
-      ∙ ap (λ (c : ℕ). Number (c * 2 ^ n + X % 2 ^ n)) none
+      ∙ ap Some zero_high
+      ∙ ap (λ (c : ℕ). Some (c * 2 ^ n + X % 2 ^ n)) none
 
-below-read : (n X : ℕ) → n ≤ 32 → gathered 0 (entities_below n X) ≡ Number (X % 2 ^ n)
-below-read zero X h = ap Number (sym (mod-one X))
+below-read : (n X : ℕ) → n ≤ 32 → gathered 0 (entities_below n X) ≡ Some (X % 2 ^ n)
+below-read zero X h = ap Some (sym (mod-one X))
 below-read (suc n) X h =
     step_by X n (omega arith) (has X n) (X / 2 ^ n % 2) refl (omega arith) (below-read n X (omega arith))
-    ∙ ap Number (sym (mod-pow-add X 1 n) ∙ ap (λ (k : ℕ). X % 2 ^ k) (omega arith))
+    ∙ ap Some (sym (mod-pow-add X 1 n) ∙ ap (λ (k : ℕ). X % 2 ^ k) (omega arith))
 
 -- a list that is not empty
-some_read : (X : ℕ) (l : List ℕ) → 0 < X → AllBelow 32 l → gathered 0 l ≡ Number X → with_list 0 [] (listed l) ≡ Number X
+some_read : (X : ℕ) (l : List ℕ) → 0 < X → AllBelow 32 l → gathered 0 l ≡ Some X → with_list 0 [] (listed l) ≡ Some X
 some_read X [] k h e = let z : 0 ≡ X = cc in absurd (omega arith)
 some_read X (x ∷ l) k h e = list_read 0 x l h ∙ e
 
@@ -147,8 +146,8 @@ braces-read : (m : List ℕ) → set_in (in_braces m) ≡ with_list 0 [] m
 braces-read m =
     in-braces (in_braces m) (omega (arith, length-append m (125 ∷ []))) refl (closed m) ∙ ap (with_list 0 []) (between m)
 
-pub set-read : (X : ℕ) → 0 < X → X < 2 ^ 32 → set_in (set_text X) ≡ Number X
+pub set-read : (X : ℕ) → 0 < X → X < 2 ^ 32 → set_in (set_text X) ≡ Some X
 unfolding set_text
 set-read X k h =
     braces-read (listed (entities_below 32 X))
-    ∙ some_read X (entities_below 32 X) k (entities-below 32 X (omega arith)) (below-read 32 X (omega arith) ∙ ap Number (mod-eq_of_lt h))
+    ∙ some_read X (entities_below 32 X) k (entities-below 32 X (omega arith)) (below-read 32 X (omega arith) ∙ ap Some (mod-eq_of_lt h))

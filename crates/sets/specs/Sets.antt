@@ -1,11 +1,9 @@
 -- Sets of entities as text: numbers below 32 in braces, with commas between them.
-use Rattle.std.specs.Prelude.{Bool, cond, not, ◌&&◌, List, [], ◌∷◌, ◌++◌, ℕ, zero, suc, ◌-◌, ◌/◌, ◌%◌, ◌^◌, eqb, leb, ltb, length, take, drop, get_or}
+use Rattle.std.specs.Prelude.{Option, Some, None, Bool, cond, not, ◌&&◌, List, [], ◌∷◌, ◌++◌, ℕ, zero, suc, ◌-◌, ◌/◌, ◌%◌, ◌^◌, eqb, leb, ltb, length, take, drop, get_or}
 use Rattle.std.specs.Int.Bits.{bit_or}
 use Rattle.text.specs.Ascii.{ascii}
 use Rattle.text.specs.Lines.{decimal, field}
 use Rattle.text.specs.Numbers.{number_in}
-use Rattle.text.specs.declared.Parsed.{Parsed}
-use Rattle.text.specs.declared.Parsed.TheVariants.{Number, Nothing}
 
 -- entity e is in the set X
 abbrev pub has : ℕ → ℕ → Bool
@@ -31,17 +29,17 @@ unfoldable pub set_text : ℕ → List ℕ
 set_text X = ascii "{" ++ (listed (entities_below 32 X) ++ ascii "}")
 
 -- X with the entity of that number, which is below 32 and not in X
-abbrev pub with_entity : ℕ → Parsed → Parsed
-with_entity X Nothing = Nothing
-with_entity X (Number e) = cond (ltb e 32 && not (has X e)) (Number (bit_or X (2 ^ e))) Nothing
+abbrev pub with_entity : ℕ → Option ℕ → Option ℕ
+with_entity X None = None
+with_entity X (Some e) = cond (ltb e 32 && not (has X e)) (Some (bit_or X (2 ^ e))) None
 
 -- what is read on, if a number was read
-abbrev pub and_then : Parsed → (ℕ → Parsed) → Parsed
-and_then Nothing next = Nothing
-and_then (Number X) next = next X
+abbrev pub and_then : Option ℕ → (ℕ → Option ℕ) → Option ℕ
+and_then None next = None
+and_then (Some X) next = next X
 
 -- X with the entities that bytes list: a comma ends the bytes since the last one, which say a number in decimal
-abbrev pub with_list : ℕ → List ℕ → List ℕ → Parsed
+abbrev pub with_list : ℕ → List ℕ → List ℕ → Option ℕ
 with_list X part [] = with_entity X (number_in part)
 with_list X part (b ∷ s) =
     cond (eqb b 44) (and_then (with_entity X (number_in part)) (λ Y. with_list Y [] s)) (with_list X (part ++ b ∷ []) s)
@@ -51,5 +49,5 @@ abbrev pub braced : List ℕ → Bool
 braced s = leb 2 (length s) && eqb (get_or s 0 0) 123 && eqb (get_or s (length s - 1) 0) 125
 
 -- The set that bytes write in braces: one entity or more, in any order, none twice.
-unfoldable pub set_in : List ℕ → Parsed
-set_in s = cond (braced s) (with_list 0 [] (take (length s - 2) (drop 1 s))) Nothing
+unfoldable pub set_in : List ℕ → Option ℕ
+set_in s = cond (braced s) (with_list 0 [] (take (length s - 2) (drop 1 s))) None

@@ -162,5 +162,5 @@ module _ (limit key : ℕ) (keys slots links : List ℕ) (n p : ℕ) (st : Store
         back k s (inr (f, b)) = (n, omega arith, key-at ∙ sym f, rw span-at b)
 
     -- the same of lists that are said to be those
-    pub added-by : (keys' spans' slots' links' : List ℕ) → (m ≡ 0 → ⊥) → keys' ≡ set keys n key → spans' ≡ set spans n m → slots' ≡ set slots p (n + 1) → links' ≡ pushed links n (role_in key) → Added limit key m keys spans n keys' spans' slots' links' (n + 1)
-    added-by keys' spans' slots' links' nz e f g h = rw (e, f, g, h) (added_new nz)
+    pub added-by : (keys' spans' slots' links' : List ℕ) (n' : ℕ) → (m ≡ 0 → ⊥) → keys' ≡ set keys n key → spans' ≡ set spans n m → slots' ≡ set slots p (n + 1) → links' ≡ pushed links n (role_in key) → n' ≡ n + 1 → Added limit key m keys spans n keys' spans' slots' links' n'
+    added-by keys' spans' slots' links' n' nz e f g h i = rw (e, f, g, h, i) (added_new nz)

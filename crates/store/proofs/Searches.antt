@@ -1,5 +1,5 @@
 -- Searches for a key: where two of one key end, what a new entry changes, and what `find` makes of the place where it ends.
-use mathlib.Core.Path.{◌≡◌, refl, sym, ap, ◌∙◌, subst}
+use mathlib.Core.Path.{◌≡◌, refl, sym, ap, ◌∙◌, subst, subst⁻¹}
 use mathlib.Core.Logic.{◌⊎◌, inl, inr}
 use mathlib.Core.List.{List}
 use Prim.Native.Nat.{ℕ, zero, suc, ◌+◌, ◌-◌, ◌*◌, ◌/◌, ◌%◌, ◌≤◌, ◌<◌}
@@ -7,7 +7,7 @@ use native.Mathlib.Nat.{suc_inj}
 use native.Mathlib.Omega.{arith}
 use lib.ListN.{length, get_or, set}
 use lib.Seq.{get_or-set_same, get_or-set_other}
-use Rattle.store.specs.Entries.{Leads, here, next, Comes, Searchable, Leading, At, EntryOf}
+use Rattle.store.specs.Entries.{Leads, here, next, Comes, Searchable, Leading, At, EntryOf, LookedUp}
 use Rattle.store.proofs.Chains.{last-or-below, equal_or_not}
 
 -- at most an entry of the key stands at the place
@@ -79,6 +79,10 @@ module _ (keys slots : List ℕ) (o : Leading slots) (p w : ℕ) (e : w ≡ get_
       let f : get_or slots p 0 ≡ suc (w - 1) = omega arith in
       let h = o p (w - 1) f in
       (omega arith, omega arith)
+
+  -- the slot where the search for a key ended
+  pub looked_up : (key : ℕ) → At keys slots key p → LookedUp keys slots key w
+  looked_up key a = record { within = slot-low; entry = λ n s. subst⁻¹ (EntryOf keys n key) e (entry_at keys slots n s a) }
 
   module _ (key : ℕ) (low : p < 3072) (h : Comes keys slots key p) where
     pub at-empty : w ≡ 0 → At keys slots key p

@@ -2,79 +2,126 @@
 #![tactic(auto)]
 
 ghost use Rattle.std.specs.Prelude.{◌≡◌, true, ℕ, ◌+◌, ◌<◌, ◌≤◌, length, set, replicate};
-ghost use Rattle.store.specs.Entries.{key_of, role_in, set_in, mixed, latest_in, pushed, Searchable, Stored, Leading, At, LookedUp, HasAll, Added};
+ghost use Rattle.store.specs.Entries.{key_of, role_in, set_in, mixed, latest_in, pushed, Searchable, Leading, At, LookedUp, HasAll, Added};
 ghost use Rattle.store.specs.Notes.{noted};
+ghost use Rattle.store.specs.Store.{StoredIn, SameEntries, one_more, reached, Fits, blank};
 
-// One more than the number of the entry with the key, or 0.
-pub fn entry_of(keys: &[u64; 1024], slots: &[u16; 3072], key: u64) -> usize
-    requires { Leading slots.now }
-    ensures { LookedUp keys.now slots.now key result }
-{
-    let p = find(keys, slots, key);
-    wide(slots[p])
+// Entries, `count` of them: of each its key and the spans in which it was found; where each key is looked up; the list of each role; and a note for each entry.
+#[derive(Drop)]
+pub struct Store {
+    pub keys: [u64; 1024],
+    pub spans: [u64; 1024],
+    pub slots: [u16; 3072],
+    pub links: [u16; 2048],
+    pub notes: [u16; 3072],
+    pub count: usize,
 }
 
-// Whether an entry is known to have the key in all spans of m.
-pub fn known(keys: &[u64; 1024], spans: &[u64; 1024], slots: &[u16; 3072], key: u64, m: u64) -> bool
-    requires { Leading slots.now }
-    ensures { result ≡ true → (n : ℕ) → Searchable keys.now slots.now n → HasAll keys.now spans.now n key m }
-{
-    let c = entry_of(keys, slots, key);
-    if c == 0 {
-        return false;
-    }
-    spans[c - 1] & m == m
-}
+// A new entry would be past the limit, and was not added.
+#[derive(Clone, Copy)]
+pub struct Full;
 
-// Adds spans to the entry of a key. A new entry past the limit is not added, and the answer is above the limit.
-pub fn add(
-    keys: &mut [u64; 1024],
-    spans: &mut [u64; 1024],
-    slots: &mut [u16; 3072],
-    links: &mut [u16; 2048],
-    n: usize,
-    limit: usize,
-    key: u64,
-    m: u64,
-) -> usize
-    requires fact_1 { Stored keys.old slots.old links.old n }
-    requires fact_2 { (length spans.old ≡ 1024) × (n ≤ limit) × (limit ≤ 1024) × (role_in key < 1024) }
-    ensures { Added limit key m keys.old spans.old n keys.new spans.new slots.new links.new result }
-{
-    if m == 0 {
-        return n;
+impl Store {
+    // A store without entries.
+    pub fn new() -> Store
+        ensures { result ≡ blank }
+    {
+        Store {
+            keys: [0; 1024],
+            spans: [0; 1024],
+            slots: [0; 3072],
+            links: [0; 2048],
+            notes: [0; 3072],
+            count: 0,
+        }
     }
-    let p = find(keys, slots, key);
-    let c = wide(slots[p]);
-    if c != 0 {
-        let i = c - 1;
-        spans[i] = spans[i] | m;
-        return n;
-    }
-    if limit <= n {
-        return limit + 1;
-    }
-    append(keys, slots, links, n, p, key);
-    spans[n] = m;
-    n + 1
-}
 
-// Notes how entry n came about.
-pub fn note(notes: &mut [u16; 3072], n: usize, at: u16, first: u16, second: u16)
-    requires { n < 1024 }
-    ensures { notes.new ≡ noted notes.old n at first second }
-{
-    notes[n] = at;
-    notes[1024 + n] = first;
-    notes[2048 + n] = second;
-}
+    // The number of the entry with the key.
+    pub fn entry_of(&self, key: u64) -> Option<usize>
+        requires { Leading self.now.slots }
+        ensures { LookedUp self.now.keys self.now.slots key (one_more result) }
+    {
+        let p = find(&self.keys, &self.slots, key);
+        match wide(self.slots[p]) {
+            0 => None,
+            c => Some(c - 1),
+        }
+    }
 
-// One more than the latest entry of a role, or 0.
-pub fn latest(links: &[u16; 2048], role: usize) -> usize
-    requires { role < 1024 }
-    ensures { result ≡ latest_in links.now role }
-{
-    wide(links[1024 + role])
+    // Whether an entry is known to have the key in all spans of m.
+    pub fn known(&self, key: u64, m: u64) -> bool
+        requires { Leading self.now.slots }
+        ensures { result ≡ true → (n : ℕ) → Searchable self.now.keys self.now.slots n → HasAll self.now.keys self.now.spans n key m }
+    {
+        match self.entry_of(key) {
+            Some(i) => self.spans[i] & m == m,
+            None => false,
+        }
+    }
+
+    // Adds spans to the entry of a key.
+    pub fn add(&mut self, limit: usize, key: u64, m: u64) -> Result<(), Full>
+        requires stored { StoredIn self.old }
+        requires few { (self.old.count ≤ limit) × (limit ≤ 1024) }
+        requires role { role_in key < 1024 }
+        ensures added { Added limit key m self.old.keys self.old.spans self.old.count self.new.keys self.new.spans self.new.slots self.new.links (reached limit self.new.count result) }
+        ensures within { Fits limit self.new.count result }
+        ensures notes { self.new.notes ≡ self.old.notes }
+    {
+        if m == 0 {
+            return Ok(());
+        }
+        let p = find(&self.keys, &self.slots, key);
+        let c = wide(self.slots[p]);
+        if c != 0 {
+            self.spans[c - 1] |= m;
+            return Ok(());
+        }
+        if limit <= self.count {
+            return Err(Full);
+        }
+        self.append(p, key, m);
+        Ok(())
+    }
+
+    // Notes how entry n came about.
+    pub fn note(&mut self, n: usize, at: u16, first: u16, second: u16)
+        requires { n < 1024 }
+        ensures notes { self.new.notes ≡ noted self.old.notes n at first second }
+        ensures others { SameEntries self.old self.new }
+    {
+        self.notes[n] = at;
+        self.notes[1024 + n] = first;
+        self.notes[2048 + n] = second;
+    }
+
+    // One more than the latest entry of a role, or 0.
+    pub fn latest(&self, role: usize) -> usize
+        requires { role < 1024 }
+        ensures { result ≡ latest_in self.now.links role }
+    {
+        wide(self.links[1024 + role])
+    }
+
+    // Makes an entry with slot p, the latest of its role, in spans m.
+    fn append(&mut self, p: usize, key: u64, m: u64)
+        requires { (self.old.count < 1024) × (p < 3072) × (role_in key < 1024) }
+        ensures keys { self.new.keys ≡ set self.old.keys self.old.count key }
+        ensures spans { self.new.spans ≡ set self.old.spans self.old.count m }
+        ensures slots { self.new.slots ≡ set self.old.slots p (self.old.count + 1) }
+        ensures links { self.new.links ≡ pushed self.old.links self.old.count (role_in key) }
+        ensures notes { self.new.notes ≡ self.old.notes }
+        ensures count { self.new.count ≡ self.old.count + 1 }
+    {
+        let n = self.count;
+        let r = 1024 + role_of(key);
+        self.keys[n] = key;
+        self.spans[n] = m;
+        self.slots[p] = (n + 1) as u16;
+        self.links[n] = self.links[r];
+        self.links[r] = (n + 1) as u16;
+        self.count = n + 1;
+    }
 }
 
 // The key of a role with a set.
@@ -106,32 +153,15 @@ pub fn wide(x: u16) -> usize
     x as usize
 }
 
-// Room for keys or spans, for slots, for links and for notes.
-pub fn room_for_keys() -> [u64; 1024]
+// Room for the spans that are done.
+pub fn room_for_spans() -> [u64; 1024]
     ensures { result ≡ replicate 1024 0 }
 {
     [0; 1024]
 }
 
-pub fn room_for_slots() -> [u16; 3072]
-    ensures { result ≡ replicate 3072 0 }
-{
-    [0; 3072]
-}
-
-pub fn room_for_links() -> [u16; 2048]
-    ensures { result ≡ replicate 2048 0 }
-{
-    [0; 2048]
-}
-
-pub fn room_for_notes() -> [u16; 3072]
-    ensures { result ≡ replicate 3072 0 }
-{
-    [0; 3072]
-}
-
 // The bits by which a key is looked for.
+#[tactic(auto, unfolding(crate::specs::Entries::mixed))]
 fn mix(key: u64) -> u64
     ensures { result ≡ mixed key }
 {
@@ -158,25 +188,4 @@ fn find(keys: &[u64; 1024], slots: &[u16; 3072], key: u64) -> usize
         p = 1022 + 2 * c + (x % 2) as usize;
         x = x / 2;
     }
-}
-
-// Makes entry n, the latest of its role, with slot p.
-fn append(
-    keys: &mut [u64; 1024],
-    slots: &mut [u16; 3072],
-    links: &mut [u16; 2048],
-    n: usize,
-    p: usize,
-    key: u64,
-)
-    requires { (n < 1024) × (p < 3072) × (role_in key < 1024) }
-    ensures fact_1 { keys.new ≡ set keys.old n key }
-    ensures fact_2 { slots.new ≡ set slots.old p (n + 1) }
-    ensures fact_3 { links.new ≡ pushed links.old n (role_in key) }
-{
-    let r = 1024 + role_of(key);
-    keys[n] = key;
-    slots[p] = (n + 1) as u16;
-    links[n] = links[r];
-    links[r] = (n + 1) as u16;
 }

@@ -1,15 +1,21 @@
 -- What loading, closing and writing come to: the columns of the table, or a table longer than the lists.
-use mathlib.Core.Path.{◌≡◌, sym, ap, ◌∙◌, subst}
+use mathlib.Core.Path.{◌≡◌, refl, sym, ap, ◌∙◌, subst, subst⁻¹}
 use mathlib.Core.Logic.{◌↔◌}
 use mathlib.Core.List.{List, Memᴰ as Mem}
-use Prim.Native.Nat.{ℕ, ◌≤◌, ◌<◌, zero-le}
+use Prim.Native.Nat.{ℕ, ◌+◌, ◌≤◌, ◌<◌, zero-le}
 use native.Mathlib.Omega.{arith}
 use lib.ListN.{length, get_or, replicate}
+use Rattle.std.proofs.Common.{Result, Ok, Err}
+use Rattle.std.specs.Result.{IsErr, OnOk}
 use Rattle.meaning.specs.Credentials.{Credential, FitsAll}
 use Rattle.meaning.specs.Table.{Row, table}
 use Rattle.policy.specs.Policy.{credentials_of}
+use Rattle.store.specs.declared.Store.{Store}
+use Rattle.store.specs.declared.Full.{Full}
+use Rattle.store.specs.Store.{reached, blank}
 use Rattle.store.proofs.Stores.{distinct-keys}
 use Rattle.heads.specs.Gaining.{Kept, Gains}
+use Rattle.heads.specs.Stores.{KeptIn}
 use Rattle.closure.specs.Closure.{Held, Closed, Finished, TooMany}
 use Rattle.giving.specs.Giving.{Closes}
 use Rattle.masks.specs.Masks.{Spans}
@@ -20,8 +26,13 @@ use Rattle.writing.specs.Columns.{column}
 use Rattle.writing.specs.Rows.{row_at, rows_of, Written}
 use Rattle.writing.proofs.Gathering.{rows-gathered}
 use Rattle.tabling.specs.Tabling.{Worked, Loadable, Filled}
-use Rattle.loading.proofs.Blank.{zero-at, zeros-length}
+use Rattle.tabling.specs.Stores.{FilledIn, WorkedTo}
+use Rattle.loading.proofs.Blank.{zero-at, zeros-length, no-entries}
 use Rattle.tabling.proofs.Tables.{is-table, too_many}
+
+-- a store without entries
+pub blank-kept : {s : Store} → s ≡ blank → KeptIn s × (s.count ≡ 0)
+blank-kept e = subst⁻¹ (λ (s : Store). KeptIn s × (s.count ≡ 0)) e (no-entries refl refl refl refl refl, refl)
 
 -- nothing is done yet
 pub held : {keys found slots links notes done : List ℕ} {n : ℕ} → Kept keys found slots links notes n → done ≡ replicate 1024 0 → Held keys found slots links notes done n
@@ -33,10 +44,12 @@ module _ {p : List ℕ} {n : ℕ} {es : List ℕ} {count limit : ℕ} (l : Loada
   spanned = own-spans (credentials_of p n) l.held l.counted l.few
 
   -- the statements of the policy are loaded
-  pub all-loaded : {codes valid lists keys found notes keys' found' slots' links' notes' : List ℕ} {r : ℕ} → UsesLoaded p n es count codes valid lists
-      → Gains limit keys found notes 0 (StatedBy p n es count) (FactBy p n es count) keys' found' slots' links' notes' r
+  pub all-loaded : {codes valid lists keys found notes keys' found' slots' links' notes' : List ℕ} {m r : ℕ} → m ≡ 0 → UsesLoaded p n es count codes valid lists
+      → Gains limit keys found notes m (StatedBy p n es count) (FactBy p n es count) keys' found' slots' links' notes' r
       → Loaded (by_span (credentials_of p n)) limit keys' found' slots' links' notes' codes valid lists r
-  all-loaded u g = loaded-own (credentials_of p n) l.held l.counted (loaded p n es count l.decoded u g)
+  all-loaded {keys = keys} {found} {notes} {keys'} {found'} {slots'} {links'} {notes'} {r = r} e u g =
+      loaded-own (credentials_of p n) l.held l.counted
+      (loaded p n es count l.decoded u (subst (λ (m : ℕ). Gains limit keys found notes m (StatedBy p n es count) (FactBy p n es count) keys' found' slots' links' notes' r) e g))
 
 module _ {cs : List Credential} {limit : ℕ} {keys found slots links notes codes valid lists : List ℕ} {n : ℕ} (d : Loaded (by_span cs) limit keys found slots links notes codes valid lists n) where
   -- more entries than the limit were loaded
@@ -62,6 +75,20 @@ module _ {cs : List Credential} {limit : ℕ} {keys found slots links notes code
     where
       before : Closed (by_span cs) keys found done n
       before = d.closed h done (zero-at 1024 z)
+
+-- a call had no room
+pub filled-full : {cs : List Credential} {limit : ℕ} {s : Store} {r : Result Unit Full} → IsErr r → Filled cs limit s.keys s.spans s.slots s.links (limit + 1) → FilledIn cs limit s r
+filled-full {r = Err e} _ f = record { filled = f; within = tt }
+filled-full {r = Ok u} x f = absurd cc
+
+pub worked-full : {cs : List Credential} {size : ℕ} {roles sets spans : List ℕ} {r : Result ℕ Full} → IsErr r → Worked cs size roles sets spans (size + 1) → WorkedTo cs size roles sets spans r
+worked-full {r = Err e} _ w = record { worked = w; within = tt }
+worked-full {r = Ok n} x w = absurd cc
+
+-- all spans are done, where there was room
+pub finished-in : (limit : ℕ) (s : Store) (done : List ℕ) (r : Result Unit Full) → OnOk r (Finished s.spans done s.count) → reached limit s.count r ≤ limit → Finished s.spans done (reached limit s.count r)
+finished-in limit s done (Ok u) f l = f
+finished-in limit s done (Err e) f l = absurd (omega arith)
 
 module _ {cs : List Credential} (fits : FitsAll cs) (size : ℕ) where
   pub worked-over : {roles sets spans : List ℕ} {r : ℕ} → size < r → TooMany (by_span cs) size → Worked cs size roles sets spans r

@@ -1,5 +1,5 @@
 -- What writing the table requires and leaves.
-use Rattle.std.specs.Prelude.{◌≡◌, List, ℕ, ◌≤◌, ◌<◌, length, get_or, replicate}
+use Rattle.std.specs.Prelude.{◌≡◌, List, ℕ, ◌≤◌, ◌<◌, length, get_or}
 use Rattle.meaning.specs.Credentials.{Credential}
 use Rattle.meaning.specs.Table.{ends, span_count, table}
 use Rattle.policy.specs.Policy.{credentials_of, Decoded}
@@ -24,10 +24,6 @@ pub record Loadable (p : List ℕ) (n : ℕ) (es : List ℕ) (count limit : ℕ)
   pub held : es ≡ padded 64 (ends (credentials_of p n))
   pub counted : count ≡ span_count (ends (credentials_of p n))
   pub small : limit ≤ 1024
-
--- a store of zeros
-abbrev pub Blank : List ℕ → List ℕ → List ℕ → List ℕ → Type 0
-Blank keys found slots links = (keys ≡ replicate 1024 0) × (found ≡ replicate 1024 0) × (slots ≡ replicate 3072 0) × (links ≡ replicate 2048 0)
 
 -- What loading and closing leave in the store: closed entries with nothing left to do, or too many.
 pub record Filled (cs : List Credential) (limit : ℕ) (keys found slots links : List ℕ) (r : ℕ) : Type 0 where

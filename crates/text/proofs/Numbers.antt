@@ -10,8 +10,7 @@ use lib.Dec.{leb, ltb}
 use lib.ListN.{length, drop, get_or, drop_of_length-le}
 use lib.Seq.{drop-cons}
 use Rattle.text.specs.Numbers.{digit, all_digits, value_after, value, number_in}
-use Rattle.text.specs.declared.Parsed.{Parsed}
-use Rattle.text.specs.declared.Parsed.TheVariants.{Number, Nothing}
+use Rattle.std.specs.Prelude.{Option, Some, None}
 
 -- after i bytes of s, all digits, that say x
 pub record Passed (s : List ℕ) (x i : ℕ) : Type 0 where
@@ -28,14 +27,14 @@ value_grows x [] = omega arith
 value_grows x (b ∷ s) = omega (arith, value_grows (then x b) s)
 
 -- by the three tests
-abbrev pub by : Bool → Bool → Bool → ℕ → Parsed
-by digits fits some x = cond (digits && fits && some) (Number x) Nothing
+abbrev pub by : Bool → Bool → Bool → ℕ → Option ℕ
+by digits fits some x = cond (digits && fits && some) (Some x) None
 
-not-small : (digits some : Bool) (x : ℕ) → by digits false some x ≡ Nothing
+not-small : (digits some : Bool) (x : ℕ) → by digits false some x ≡ None
 not-small true some x = refl
 not-small false some x = refl
 
-pub empty-none : (s : List ℕ) → length s ≡ 0 → number_in s ≡ Nothing
+pub empty-none : (s : List ℕ) → length s ≡ 0 → number_in s ≡ None
 empty-none [] h = refl
 empty-none (b ∷ s) h = absurd (omega arith)
 
@@ -43,7 +42,7 @@ pub starts : (s : List ℕ) → Passed s 0 0
 starts s = record { within = omega arith; small = omega arith; digits = refl; says = refl }
 
 module _ {s : List ℕ} {x i : ℕ} (p : Passed s x i) where
-  pub ended : 0 < length s → length s ≤ i → number_in s ≡ Number x
+  pub ended : 0 < length s → length s ≤ i → number_in s ≡ Some x
   ended k h =
       let e : drop i s ≡ [] = drop_of_length-le s h in
       let v : value s ≡ x = p.says ∙ ap (value_after x) e in
@@ -54,12 +53,12 @@ module _ {s : List ℕ} {x i : ℕ} (p : Passed s x i) where
     here : drop i s ≡ get_or s i 0 ∷ drop (i + 1) s
     here = rw (add-one, drop-cons s i 0)
 
-    pub stopped : digit (get_or s i 0) ≡ false → number_in s ≡ Nothing
+    pub stopped : digit (get_or s i 0) ≡ false → number_in s ≡ None
     stopped e =
         ap (λ (d : Bool). by d (ltb (value s) (2 ^ 32)) (ltb 0 (length s)) (value s))
         (p.digits ∙ ap all_digits here ∙ ap (λ (d : Bool). d && all_digits (drop (i + 1) s)) e)
 
-    pub too_large : 2 ^ 32 ≤ then x (get_or s i 0) → number_in s ≡ Nothing
+    pub too_large : 2 ^ 32 ≤ then x (get_or s i 0) → number_in s ≡ None
     too_large l =
         let v : value s ≡ value_after (then x (get_or s i 0)) (drop (i + 1) s) = p.says ∙ ap (value_after x) here in
         let k : 2 ^ 32 ≤ value s = omega (arith, v, value_grows (then x (get_or s i 0)) (drop (i + 1) s)) in

@@ -2,7 +2,7 @@
 use mathlib.Core.Path.{◌≡◌, refl, ap, ap₂, subst, ◌∙◌}
 use mathlib.Core.Bool.{Bool, true, ◌&&◌}
 use mathlib.Core.List.{List, [], ◌∷◌, ◌++◌}
-use Prim.Native.Nat.{ℕ, zero, suc, ◌+◌, ◌-◌, ◌*◌, ◌/◌, ◌%◌, ◌^◌, ◌<◌}
+use Prim.Native.Nat.{ℕ, zero, suc, ◌+◌, ◌*◌, ◌/◌, ◌%◌, ◌^◌, ◌<◌}
 use native.Mathlib.Nat.{pow-suc}
 use native.Mathlib.Omega.{arith}
 use borrow.Author.Tests.{lt-ltb, le-leb}
@@ -10,7 +10,7 @@ use lib.Dec.{ltb}
 use lib.ListN.{length, length-append}
 use Rattle.text.specs.Lines.{digits, decimal}
 use Rattle.text.specs.Numbers.{digit, all_digits, value_after, value, number_in}
-use Rattle.text.specs.declared.Parsed.TheVariants.{Number}
+use Rattle.std.specs.Prelude.{Some}
 use Rattle.text.proofs.Decimal.{ended}
 use Rattle.text.proofs.Numbers.{then, by, both}
 
@@ -57,7 +57,7 @@ pub decimal-digits : (x : ℕ) → x < 2 ^ 32 → all_digits (decimal x) ≡ tru
 unfolding decimal
 decimal-digits x h = (digits-say 9 x (omega arith)).digits
 
-pub decimal-read : (x : ℕ) → x < 2 ^ 32 → number_in (decimal x) ≡ Number x
+pub decimal-read : (x : ℕ) → x < 2 ^ 32 → number_in (decimal x) ≡ Some x
 unfolding decimal
 decimal-read x h =
     let p = digits-say 9 x (omega arith) in

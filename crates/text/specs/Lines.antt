@@ -1,5 +1,5 @@
 -- Lines of text as bytes: numbers in decimal with single spaces, each line ended by a newline.
-use Rattle.std.specs.Prelude.{List, [], ◌∷◌, ◌++◌, ◌≡◌, ℕ, zero, suc, ◌+◌, ◌/◌, ◌%◌, ◌≤◌, length, take, drop}
+use Rattle.std.specs.Prelude.{List, [], ◌∷◌, ◌++◌, ℕ, zero, suc, ◌+◌, ◌/◌, ◌%◌}
 
 -- the digits of a number below 10 ^ n, without leading zeros; one digit for 0
 abbrev pub digits : ℕ → ℕ → List ℕ
@@ -23,21 +23,3 @@ abbrev pub line : List ℕ → List ℕ
 line [] = 10 ∷ []
 line (x ∷ []) = field x 10
 line (x ∷ y ∷ xs) = field x 32 ++ line (y ∷ xs)
-
--- The bytes, at most so many, stand between the places `at` and r of a buffer; what stood before `at` and from r on still does.
-pub record Put (before after : List ℕ) (at r most : ℕ) (bytes : List ℕ) : Type 0 where
-  pub count : r ≡ at + length bytes
-  pub within : r ≤ at + most
-  pub text : take r after ≡ take at before ++ bytes
-  pub rest : drop r after ≡ drop r before
-
--- a line of r bytes in a buffer of so many, and from r on what stood there: all bytes are fixed
-pub record LinedIn (size : ℕ) (before after : List ℕ) (r : ℕ) (bytes : List ℕ) : Type 0 where
-  pub room : length after ≡ size
-  pub fits : r ≤ size
-  pub count : r ≡ length bytes
-  pub line : after ≡ bytes ++ drop r before
-
--- in a buffer of 128 bytes
-abbrev pub Lined : List ℕ → List ℕ → ℕ → List ℕ → Type 0
-Lined before after r bytes = LinedIn 128 before after r bytes

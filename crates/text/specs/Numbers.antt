@@ -1,7 +1,5 @@
 -- Numbers that bytes say in decimal.
-use Rattle.std.specs.Prelude.{Bool, true, cond, ◌&&◌, List, [], ◌∷◌, ℕ, ◌+◌, ◌-◌, ◌*◌, ◌^◌, leb, ltb, length}
-use Rattle.text.specs.declared.Parsed.{Parsed}
-use Rattle.text.specs.declared.Parsed.TheVariants.{Number, Nothing}
+use Rattle.std.specs.Prelude.{Option, Some, None, Bool, true, cond, ◌&&◌, List, [], ◌∷◌, ℕ, ◌+◌, ◌-◌, ◌*◌, ◌^◌, leb, ltb, length}
 
 -- `0` to `9`
 abbrev pub digit : ℕ → Bool
@@ -23,5 +21,5 @@ value s = value_after 0 s
 abbrev pub is_number : List ℕ → Bool
 is_number s = all_digits s && ltb (value s) (2 ^ 32) && ltb 0 (length s)
 
-abbrev pub number_in : List ℕ → Parsed
-number_in s = cond (is_number s) (Number (value s)) Nothing
+abbrev pub number_in : List ℕ → Option ℕ
+number_in s = cond (is_number s) (Some (value s)) None

@@ -1,96 +1,117 @@
-// Pieces of text in a buffer, and numbers in decimal.
+// Text that is being written, with numbers in decimal, and numbers read from text.
 #![tactic(auto)]
 
-ghost use Rattle.std.specs.Prelude.{◌≡◌, [], ◌∷◌, ◌+◌, ◌%◌, ◌≤◌, ◌<◌, length};
-ghost use Rattle.text.specs.Lines.{Put, decimal, field};
+ghost use Rattle.std.specs.Prelude.{◌≡◌, List, ℕ, [], ◌∷◌, ◌++◌, ◌+◌, ◌≤◌, ◌<◌, length, take};
+ghost use Rattle.text.specs.Lines.{decimal, field};
 ghost use Rattle.text.specs.Numbers.{digit, number_in};
 
-// The number that bytes say in decimal, if they do.
-#[derive(Clone, Copy)]
-pub enum Parsed {
-    Number(u32),
-    Nothing,
+use std::marker::Model;
+
+// Text of at most N bytes. Contracts see the bytes that were put.
+#[derive(Drop)]
+pub struct Text<const N: usize> {
+    bytes: [u8; N],
+    end: usize,
 }
 
-// Each function that puts something writes it at `at` and returns the next place. What stands before `at` and from that place on stays.
+impl<const N: usize> Model for Text<N> {
+    ghost Value = { List ℕ };
 
-pub fn put_bytes(out: &mut [u8], at: usize, bytes: &[u8]) -> usize
-    requires { at + length bytes.now ≤ length out.old }
-    ensures { Put out.old out.new at result (length bytes.now) bytes.now }
-{
-    let mut i = 0;
-    while i < bytes.len() {
-        out[at + i] = bytes[i];
-        i += 1;
+    ghost view = { λ t. take t.end t.bytes };
+
+    ghost invariant = { λ t. t.end ≤ N };
+}
+
+impl<const N: usize> Text<N> {
+    // Nothing yet.
+    pub fn new() -> Self
+        ensures { result ≡ [] }
+    {
+        Text {
+            bytes: [0; N],
+            end: 0,
+        }
     }
-    at + i
+
+    // What was put.
+    pub fn as_bytes(&self) -> &[u8]
+        ensures { result.now ≡ self.now }
+    {
+        &self.bytes[..self.end]
+    }
+
+    pub fn put_byte(&mut self, b: u8)
+        requires { length self.old < N }
+        ensures { self.new ≡ self.old ++ b ∷ [] }
+    {
+        self.bytes[self.end] = b;
+        self.end += 1;
+    }
+
+    pub fn put_bytes(&mut self, bytes: &[u8])
+        requires { length self.old + length bytes.now ≤ N }
+        ensures { self.new ≡ self.old ++ bytes.now }
+    {
+        for b in bytes {
+            self.put_byte(*b);
+        }
+    }
+
+    // A number, of at most ten digits.
+    pub fn put_decimal(&mut self, x: u32)
+        requires { length self.old + 10 ≤ N }
+        ensures text { self.new ≡ self.old ++ decimal x }
+        ensures within { length self.new ≤ length self.old + 10 }
+    {
+        let mut digits = [0u8; 10];
+        let n = put_digits(&mut digits, x);
+        self.put_bytes(&digits[..n]);
+    }
+
+    // A number and the byte after it.
+    pub fn put_field(&mut self, x: u32, end: u8)
+        requires { length self.old + 11 ≤ N }
+        ensures text { self.new ≡ self.old ++ field x end }
+        ensures within { length self.new ≤ length self.old + 11 }
+    {
+        self.put_decimal(x);
+        self.put_byte(end);
+    }
 }
 
-pub fn put_byte(out: &mut [u8], at: usize, b: u8) -> usize
-    requires { at < length out.old }
-    ensures { Put out.old out.new at result 1 (b ∷ []) }
+// Puts the decimal of a number at the start, and returns how many digits it has.
+fn put_digits(digits: &mut [u8; 10], x: u32) -> usize
+    ensures count { result ≡ length (decimal x) }
+    ensures text { take result digits.new ≡ decimal x }
 {
-    out[at] = b;
-    at + 1
-}
-
-// A number, of at most ten digits.
-pub fn put_decimal(out: &mut [u8], at: usize, x: u32) -> usize
-    requires { at + 10 ≤ length out.old }
-    ensures { Put out.old out.new at result 10 (decimal x) }
-{
-    put_number(out, at, x)
-}
-
-// A number and the byte after it.
-pub fn put_field(out: &mut [u8], at: usize, x: u32, end: u8) -> usize
-    requires { at + 11 ≤ length out.old }
-    ensures { Put out.old out.new at result 11 (field x end) }
-{
-    let next = put_decimal(out, at, x);
-    put_byte(out, next, end)
+    let last_digit = b'0' + (x % 10) as u8;
+    if x < 10 {
+        digits[0] = last_digit;
+        return 1;
+    }
+    let last = put_digits(digits, x / 10);
+    digits[last] = last_digit;
+    last + 1
 }
 
 // The number of up to 32 bits that bytes say in decimal. Leading zeros are allowed.
-pub fn parse(bytes: &[u8]) -> Parsed
+pub fn parse(bytes: &[u8]) -> Option<u32>
     ensures { result ≡ number_in bytes.now }
 {
     if bytes.len() == 0 {
-        return Parsed::Nothing;
+        return None;
     }
     let mut x: u64 = 0;
-    let mut i = 0;
-    while i < bytes.len() {
-        let b = bytes[i];
-        if !is_digit(b) {
-            return Parsed::Nothing;
+    for b in bytes {
+        if !is_digit(*b) {
+            return None;
         }
-        x = 10 * x + (b - b'0') as u64;
+        x = 10 * x + (*b - b'0') as u64;
         if 4294967295 < x {
-            return Parsed::Nothing;
+            return None;
         }
-        i += 1;
     }
-    Parsed::Number(x as u32)
-}
-
-// The last digit of x.
-fn put_digit(out: &mut [u8], at: usize, x: u32) -> usize
-    requires { at < length out.old }
-    ensures { Put out.old out.new at result 1 ((48 + x % 10) ∷ []) }
-{
-    put_byte(out, at, b'0' + (x % 10) as u8)
-}
-
-fn put_number(out: &mut [u8], at: usize, x: u32) -> usize
-    requires { at + length (decimal x) ≤ length out.old }
-    ensures { Put out.old out.new at result (length (decimal x)) (decimal x) }
-{
-    if x < 10 {
-        return put_digit(out, at, x);
-    }
-    let last = put_number(out, at, x / 10);
-    put_digit(out, last, x)
+    Some(x as u32)
 }
 
 fn is_digit(b: u8) -> bool

@@ -5,6 +5,8 @@ ghost use Rattle.std.specs.Prelude.{◌≡◌, ◌<◌, ◌≤◌, length};
 ghost use Rattle.waiting.specs.Pairs.{pair_set, pair_spans, pair_at};
 ghost use Rattle.waiting.specs.Waiting.{RoleLists, Waiting, Placed, United, Gathers, Settled};
 
+use store::Store;
+
 // A set in some spans that is paired by a kind.
 #[derive(Clone, Copy)]
 pub struct Offer {
@@ -43,14 +45,14 @@ pub fn room() -> [u64; 97]
 }
 
 // What entry j gives.
-pub fn pair_at(keys: &[u64; 1024], done: &[u64; 1024], o: Offer, j: usize) -> Pair
+pub fn pair_at(store: &Store, done: &[u64; 1024], o: Offer, j: usize) -> Pair
     requires { (j < 1024) × (o.set < 4294967296) }
-    ensures fact_1 { result ≡ pair_at keys.now done.now o j }
-    ensures fact_2 { result.set < 4294967296 }
+    ensures pair { result ≡ pair_at store.now.keys done.now o j }
+    ensures set { result.set < 4294967296 }
 {
     let kind = o.kind;
     let x = o.set;
-    let y = store::set_of(keys[j]);
+    let y = store::set_of(store.keys[j]);
     Pair {
         set: pair_set(kind, x, y),
         spans: pair_spans(kind, x, y, o.spans & done[j]),
@@ -61,26 +63,25 @@ pub fn pair_at(keys: &[u64; 1024], done: &[u64; 1024], o: Offer, j: usize) -> Pa
 // Has what entry start - 1 and the entries before it in its role's list give wait, until no place is left or the list ends.
 pub fn gather(
     waiting: &mut [u64; 97],
-    keys: &[u64; 1024],
-    links: &[u16; 2048],
+    store: &Store,
     done: &[u64; 1024],
     o: Offer,
     start: usize,
 ) -> Gathered
-    requires { (length waiting.old ≡ 97) × (o.set < 4294967296) × (start ≤ 1024) × RoleLists keys.now links.now start }
-    ensures { Gathers keys.now done.now o start waiting.new result }
+    requires { (o.set < 4294967296) × (start ≤ 1024) × RoleLists store.now.keys store.now.links start }
+    ensures { Gathers store.now.keys done.now o start waiting.new result }
 {
     let mut q = Queue { count: 0, last: 0 };
     let mut at = start;
     while at != 0 {
-        let x = pair_at(keys, done, o, at - 1);
+        let x = pair_at(store, done, o, at - 1);
         if x.spans != 0 {
             if q.count == 24 {
                 return Gathered { count: 24, at };
             }
             q = unite(waiting, q, x);
         }
-        at = store::wide(links[at - 1]);
+        at = store::wide(store.links[at - 1]);
     }
     Gathered {
         count: q.count,
@@ -90,15 +91,15 @@ pub fn gather(
 
 // Joins a set to its equal among those that wait, or gives it a new place.
 fn unite(waiting: &mut [u64; 97], q: Queue, x: Pair) -> Queue
-    requires fact_1 { Waiting waiting.old q.count }
-    requires fact_2 { (x.set < 4294967296) × (x.other ≤ 1024) }
-    requires fact_3 { (x.spans ≡ 0 → ⊥) × (q.count < 24) }
+    requires waiting { Waiting waiting.old q.count }
+    requires fits { (x.set < 4294967296) × (x.other ≤ 1024) }
+    requires some { (x.spans ≡ 0 → ⊥) × (q.count < 24) }
     ensures { United waiting.old q x waiting.new result }
 {
     let count = q.count;
     let place = place_of(waiting, q, x.set);
     if place < count {
-        waiting[24 + place] = waiting[24 + place] | x.spans;
+        waiting[24 + place] |= x.spans;
         return Queue { count, last: place };
     }
     waiting[count] = x.other as u64 * 4294967296 + x.set;
@@ -117,10 +118,8 @@ fn place_of(waiting: &mut [u64; 97], q: Queue, set: u64) -> usize
     ensures { (Placed waiting.old q.count set result) × (Settled waiting.old waiting.new) }
 {
     let last = q.last;
-    if last < q.count {
-        if store::set_of(waiting[last]) == set {
-            return last;
-        }
+    if last < q.count && store::set_of(waiting[last]) == set {
+        return last;
     }
     search(waiting, q.count, set)
 }
@@ -128,13 +127,12 @@ fn place_of(waiting: &mut [u64; 97], q: Queue, set: u64) -> usize
 // The place of a set among those that wait, or their count, by the tree in places 48 on, which then leads there. Were an equal set missed, only time would be lost.
 fn search(waiting: &mut [u64; 97], count: usize, set: u64) -> usize
     requires { (length waiting.old ≡ 97) × (count < 24) × (set < 4294967296) }
-    ensures fact_1 { Placed waiting.old count set result }
-    ensures fact_2 { Settled waiting.old waiting.new }
+    ensures placed { Placed waiting.old count set result }
+    ensures settled { Settled waiting.old waiting.new }
 {
     let mut x = set * 2654435761 % 4294967296;
     let mut p = 48;
-    let mut left: usize = 33;
-    while left != 0 {
+    for _ in 0..33 {
         let c = widths::whole(waiting[p]) as usize;
         if count <= c {
             waiting[p] = count as u64;
@@ -145,7 +143,6 @@ fn search(waiting: &mut [u64; 97], count: usize, set: u64) -> usize
         }
         p = 49 + 2 * c + (x / 2147483648) as usize;
         x = x * 2 % 4294967296;
-        left -= 1;
     }
     count
 }
@@ -154,10 +151,8 @@ fn search(waiting: &mut [u64; 97], count: usize, set: u64) -> usize
 fn pair_spans(kind: u32, x: u64, y: u64, m: u64) -> u64
     ensures { result ≡ pair_spans kind x y m }
 {
-    if kind == 5 {
-        if x & y != 0 {
-            return 0;
-        }
+    if kind == 5 && x & y != 0 {
+        return 0;
     }
     m
 }
