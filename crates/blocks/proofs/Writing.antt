@@ -1,24 +1,19 @@
 -- Laws of `written`: one part after the other is both together, and a loop that writes blocks of k bytes.
-use mathlib.Core.Path.{◌≡◌, refl, sym, ap, ap₂, ◌∙◌}
-use mathlib.Core.List.{List, [], ◌++◌, append_assoc, append-nil}
+use mathlib.Core.Path.{◌≡◌, sym, ap, ap₂, ◌∙◌}
+use mathlib.Core.List.{List, ◌++◌, append_assoc, append-nil}
 use Prim.Native.Nat.{ℕ, zero, suc, ◌+◌, ◌-◌, ◌*◌, ◌≤◌, ◌<◌}
-use native.Mathlib.Nat.{mul-suc, mul-zero, add-zero}
+use native.Mathlib.Nat.{mul-suc, add-zero}
 use native.Mathlib.Numerals.{add-one}
 use native.Mathlib.Omega.{arith}
-use lib.ListN.{length, take, drop, length-append, length-drop, take-append-drop}
-use lib.Seq.{take_at, drop-append-add, drop-drop, length-take-le, take-length, drop-length, paste}
-use borrow.Rule.Slice.PartMut.{mid_of, put_mid, Post-is, mid_len}
+use lib.ListN.{length, take, drop, length-append, length-drop}
+use lib.Seq.{take_at, drop-append-add, drop-drop, length-take-le, drop-length}
+use borrow.Rule.Slice.PartMut.{mid_of, mid_len}
 use Rattle.meaning.specs.Lists.{each, up_from, below}
 use Rattle.codec.specs.Bytes.{bytes}
 use Rattle.codec.proofs.Entries.{length-bytes}
 use Rattle.blocks.specs.Blocks.{written}
 
 -- ---- one part
-
-pub written_none : (d : List ℕ) (at : ℕ) → d ≡ written d at []
-written_none d at =
-    let z : at ≡ at + 0 = omega arith in
-    sym (take-append-drop at d) ∙ ap₂ (λ (l : List ℕ) (n : ℕ). l ++ drop n d) (sym (append-nil (take at d))) z
 
 module _ (d : List ℕ) (at : ℕ) (t : List ℕ) (room : at + length t ≤ length d) where
   front_length : length (take at d ++ t) ≡ at + length t
@@ -52,19 +47,6 @@ written-whole d t e =
 pub written_start : (d t : List ℕ) (n : ℕ) → length t ≡ n → take n (written d 0 t) ≡ t
 written_start d t n e = take_at t (drop (0 + length t) d) n e
 
--- a copy of all of a list
-pub written-copy : (d : List ℕ) (at : ℕ) (s : List ℕ) (i : ℕ) → i ≡ length s → paste d at s i ≡ written d at s
-written-copy d at s i e = ap (λ (n : ℕ). take at d ++ take n s ++ drop (at + n) d) e ∙ ap (λ (l : List ℕ). take at d ++ l ++ drop (at + length s) d) (take-length s)
-
--- the four bytes of a number, put in the place of a part of the list
-pub written-four : (d : List ℕ) (p x : ℕ) → p + 4 ≤ length d → {t : List ℕ} → t ≡ bytes (length (mid_of p (p + 4 - p) d)) x → put_mid p (p + 4 - p) d t ≡ written d p (bytes 4 x)
-written-four d p x h {t} e =
-    let k : p + 4 - p ≡ 4 = omega arith in
-    let l : t ≡ bytes 4 x = e ∙ ap (λ (n : ℕ). bytes n x) (mid_len p (p + 4) d h ∙ k) in
-    let n : p + 4 ≡ p + length (bytes 4 x) = ap (λ (m : ℕ). p + m) (sym (length-bytes 4 x)) in
-    ap₂ (λ (y z : List ℕ). take p d ++ (y ++ z)) l (Post-is p (p + 4) d (omega arith) ∙ ap (λ (m : ℕ). drop m d) n)
-    ∙ sym (append_assoc (take p d) (bytes 4 x) (drop (p + length (bytes 4 x)) d))
-
 -- ---- blocks
 
 each_snoc : (g : ℕ → List ℕ) (s n : ℕ) → each g (up_from s (suc n)) ≡ each g (up_from s n) ++ g (s + n)
@@ -87,9 +69,6 @@ pub record Blocks (d : List ℕ) (at k n : ℕ) (g : ℕ → List ℕ) (i : ℕ)
   pub same : l ≡ written d at (each g (below i))
 
 module _ (d : List ℕ) (at k n : ℕ) (g : ℕ → List ℕ) where
-  pub blocks-none : Blocks d at k n g 0 d
-  blocks-none = record { within = omega arith; size = sym (mul-zero k); long = refl; same = written_none d at }
-
   pub blocks_more : (i : ℕ) {l : List ℕ} → Blocks d at k n g i l → i < n → length (g i) ≡ k → at + k * i + k ≤ length d → {m : List ℕ} → m ≡ written l (at + k * i) (g i) → Blocks d at k n g (i + 1) m
   blocks_more i {l} r low few room {m} e =
       let b : List ℕ = each g (below i) in
@@ -104,9 +83,6 @@ module _ (d : List ℕ) (at k n : ℕ) (g : ℕ → List ℕ) where
         long = ap length all ∙ written-length d at (b ++ g i) (omega arith);
         same = all ∙ ap (written d at) (sym (each_next g i));
       }
-
-  pub blocks-all : (i : ℕ) {l : List ℕ} → Blocks d at k n g i l → n ≤ i → l ≡ written d at (each g (below n))
-  blocks-all i r h = let e : i ≡ n = omega (arith, r.within) in r.same ∙ ap (λ (m : ℕ). written d at (each g (below m))) e
 
 -- ---- the blocks
 

@@ -12,11 +12,7 @@ pub fn copy(dst: &mut [u8], at: usize, src: &[u8])
     requires { at + length src.now ≤ length dst.old }
     ensures { dst.new ≡ written dst.old at src.now }
 {
-    let mut i = 0;
-    while i < src.len() {
-        dst[at + i] = src[i];
-        i += 1;
-    }
+    dst[at..at + src.len()].copy_from_slice(src);
 }
 
 // N statements of 8 bytes, each with its position plus one as serial.
@@ -24,11 +20,9 @@ pub fn put_statements(dst: &mut [u8], src: &[u8], n: usize)
     requires { (n ≤ 256) × (6 + 12 * n ≤ length dst.old) × (6 + 8 * n ≤ length src.now) }
     ensures { dst.new ≡ written dst.old 6 (each (serialled src.now) (below n)) }
 {
-    let mut i = 0;
-    while i < n {
+    for i in 0..n {
         let from = 6 + 8 * i;
         put_with(dst, 6 + 12 * i, &src[from..from + 8], (i + 1) as u64);
-        i += 1;
     }
 }
 
@@ -37,11 +31,9 @@ pub fn copy_statements(dst: &mut [u8], src: &[u8], n: usize)
     requires { (n ≤ 256) × (6 + 8 * n ≤ length dst.old) × (6 + 12 * n ≤ length src.now) }
     ensures { dst.new ≡ written dst.old 6 (each (bare src.now) (below n)) }
 {
-    let mut i = 0;
-    while i < n {
+    for i in 0..n {
         let from = 6 + 12 * i;
         copy(dst, 6 + 8 * i, &src[from..from + 8]);
-        i += 1;
     }
 }
 
@@ -50,12 +42,10 @@ pub fn put_periods(dst: &mut [u8], at: usize, src: &[u8], from: usize, count: us
     requires { (count ≤ 256) × (at + 8 * count ≤ length dst.old) × (from + 8 * count ≤ length src.now) }
     ensures { dst.new ≡ written dst.old at (each (raised src.now from by) (below count)) }
 {
-    let mut i = 0;
-    while i < count {
+    for i in 0..count {
         let p = from + 8 * i;
         let x = number_at(src, p + 4) + (by as u64);
         put_with(dst, at + 8 * i, &src[p..p + 4], x);
-        i += 1;
     }
 }
 

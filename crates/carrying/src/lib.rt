@@ -143,12 +143,10 @@ fn first_out_of_place(file: &[u8], n: usize) -> usize
     requires { (n ≤ 256) × (6 + 12 * n ≤ length file.now) }
     ensures { FirstOut file.now n result }
 {
-    let mut i = 0;
-    while i < n {
+    for i in 0..n {
         if file::serial_at(file, i) as usize != i + 1 {
             return i;
         }
-        i += 1;
     }
     n
 }

@@ -1,5 +1,5 @@
 -- The answers of checking: the first step that breaks the rules, another membership, or the level.
-use mathlib.Core.Path.{◌≡◌, refl, sym, ap, ◌∙◌, subst⁻¹}
+use mathlib.Core.Path.{◌≡◌, refl, sym, ap, ◌∙◌, subst, subst⁻¹}
 use mathlib.Core.Bool.{Bool, true, false, ◌&&◌, not}
 use mathlib.Core.List.{List, [], ◌∷◌, ◌++◌, map}
 use Prim.Native.Nat.{ℕ, zero, suc, ◌+◌, ◌<◌, ◌≤◌}
@@ -12,12 +12,13 @@ use Rattle.meaning.specs.Lists.{if, up_from, below}
 use Rattle.meaning.specs.Credentials.{Credential}
 use Rattle.meaning.specs.Proofs.{Shown}
 use Rattle.meaning.proofs.Tests.{and_left, and_right}
-use Rattle.file.specs.declared.Refusal.{Refusal}
+use Rattle.policy.specs.Policy.{credentials_of}
 use Rattle.file.specs.Refusals.{RefusalRow, Outcome, done, refused, first, ◌at◌when◌}
-use Rattle.file.specs.Values.{first_refusal}
 use Rattle.file.specs.Reading.{between}
 use Rattle.withdrawals.specs.Source.{Source, credentials}
-use Rattle.asking.specs.Asking.{Request, StepLists, step_in, steps_in, size, one_length, asking, Askable}
+use Rattle.asking.specs.Asking.{Request, StepLists, step_in, steps_in, size, one_length, Sized, Askable}
+use Rattle.asking.specs.declared.Admission.{Admission}
+use Rattle.asking.specs.Admitting.{Admits}
 use Rattle.asking.proofs.Asked.{askable-passes, asked-refused, asked-passed, askable}
 use Rattle.checking.specs.declared.Kept.{Kept}
 use Rattle.checking.specs.Checking.{step_holds, last_shown, last_row, part_before, proof_rows, checking}
@@ -83,7 +84,7 @@ module _ (cs : List Credential) (q : Request) (t : StepLists) (n : ℕ) where
 
   -- by how many steps keep the rules
   module _ {k : Kept} (w : Walked cs q.minute t n k) where
-    pub walk-concludes : concluded_by k q.role q.set n ≡ concluding cs q t n
+    walk-concludes : concluded_by k q.role q.set n ≡ concluding cs q t n
     walk-concludes = go (ltb k.count n) refl
       where
         by_last : n ≤ k.count → (b : Bool) → asked q (record { role = k.role; set = k.set; level = k.level }) ≡ b → if b (done k.level) (refused 16 0) ≡ concluding cs q t n
@@ -106,27 +107,30 @@ module _ (f : Source) (q : Request) (t : StepLists) (n : ℕ) where
   unfolding checking
   after-request a = askable-passes f q t a (proof_rows (credentials f) q t n) level
 
-  module _ (r : Refusal) (e : r ≡ first_refusal (asking f q t)) where
-    pub request-refused : (r.number ≡ 0 → ⊥) → refused r.number r.place ≡ checking f q t n
-    unfolding checking
-    request-refused h = sym (asked-refused f q t r e h (proof_rows (credentials f) q t n) level)
+  -- what the judge of the request says
+  module _ {p : List ℕ} {j : Admission} (judged : (u : StepLists) → Sized u (length t.credential) (length t.first) (length t.second) (length t.sets) → Admits f q u p j) where
+    e : Admits f q t p j
+    e = judged t (record { credential = refl; first = refl; second = refl; sets = refl })
 
-    module _ (z : r.number ≡ 0) where
-      pub count-refused : between 1 (size t) n ≡ false → refused 14 0 ≡ checking f q t n
+    pub request-refused : (j.number ≡ 0 → ⊥) → refused j.number j.place ≡ checking f q t n
+    unfolding checking
+    request-refused h = sym (asked-refused f q t (record { number = j.number; place = j.place }) e.refusal h (proof_rows (credentials f) q t n) level)
+
+    module _ (z : j.number ≡ 0) where
+      passed : first (proof_rows (credentials f) q t n) level ≡ checking f q t n
       unfolding checking
-      count-refused b = sym (asked-passed f q t r e z (proof_rows (credentials f) q t n) level ∙ rw b refl)
+      passed = sym (asked-passed f q t (record { number = j.number; place = j.place }) e.refusal z (proof_rows (credentials f) q t n) level)
+
+      pub count-refused : between 1 (size t) n ≡ false → refused 14 0 ≡ checking f q t n
+      count-refused b = rw b at passed
 
       module _ (b : between 1 (size t) n ≡ true) where
-        pub count-passed : concluding (credentials f) q (part_before n t) n ≡ checking f q t n
-        unfolding checking concluding
-        count-passed = sym (asked-passed f q t r e z (proof_rows (credentials f) q t n) level ∙ rw b refl)
-
         counted : (1 ≤ n) × (n ≤ size t)
         counted = let s : T (between 1 (size t) n) = subst⁻¹ T b tt in (leb→le 1 n (and_left (leb 1 n) (leb n (size t)) s), leb→le n (size t) (and_right (leb 1 n) (leb n (size t)) s))
 
-        pub walkable : {c : ℕ} → c ≤ 256 → Walkable c (part_before n t) n
-        walkable m =
-            let a = askable f q t r e z in
+        pub walkable : Walkable j.credentials (part_before n t) n
+        walkable =
+            let a = askable f q t (record { number = j.number; place = j.place }) e.refusal z in
             let s : T (one_length t) = subst⁻¹ T a.lists tt in
             let x = eqb (length t.first) (size t) in
             let y = eqb (length t.second) (size t) in
@@ -140,4 +144,11 @@ module _ (f : Source) (q : Request) (t : StepLists) (n : ℕ) where
             let few = leb→le (size t) 1024 (and_right (leb 1 (size t)) (leb (size t) 1024) (and_right (x && y && v) u s)) in
             let c = counted in
             let part : (l : List ℕ) → length l ≡ size t → length (take n l) ≡ n = λ l o. length-take-le n l (omega arith) in
-            record { credentials = m; credential = part t.credential refl; first = part t.first ef; second = part t.second es; sets = part t.sets ev; some = c.0; few = omega arith }
+            record { credentials = (e.policy z).decoded.few; credential = part t.credential refl; first = part t.first ef; second = part t.second es; sets = part t.sets ev; some = c.0; few = omega arith }
+
+        -- the answer, from the steps
+        pub walked-concludes : {k : Kept} → Walked (credentials_of p j.credentials) q.minute (part_before n t) n k → concluded_by k q.role q.set n ≡ checking f q t n
+        unfolding concluding
+        walked-concludes {k} w =
+            walk-concludes (credentials f) q (part_before n t) n (subst (λ (cs : List Credential). Walked cs q.minute (part_before n t) n k) (e.policy z).means w)
+            ∙ rw b at passed

@@ -1,9 +1,9 @@
 -- The steps of a proof, one after another.
-use mathlib.Core.Path.{◌≡◌, refl, sym, ap, ap₂, ◌∙◌, subst}
-use mathlib.Core.Bool.{true, false, ◌&&◌}
+use mathlib.Core.Path.{◌≡◌, sym, ap, ap₂, ◌∙◌, subst}
+use mathlib.Core.Bool.{true, ◌&&◌}
 use mathlib.Core.List.{List, [], ◌∷◌, ◌++◌, map}
 use Prim.Native.Nat.{ℕ, suc, ◌+◌, ◌-◌, ◌<◌, ◌≤◌}
-use native.Mathlib.Nat.{not-suc-le-zero}
+use native.Mathlib.Nat.{le_refl}
 use native.Mathlib.Numerals.{add-one}
 use native.Mathlib.Omega.{arith}
 use borrow.Author.Count.{below_more}
@@ -16,9 +16,9 @@ use Rattle.meaning.specs.Proofs.{Step, Shown, nothing, keeps, showing, shown_by}
 use Rattle.meaning.proofs.Proofs.{shown-append}
 use Rattle.asking.specs.Asking.{StepLists, step_in, steps_in}
 use Rattle.checking.specs.Checking.{step_holds, last_shown}
-use Rattle.steps.specs.Steps.{shown_at, shown_in, Known, Judges}
+use Rattle.steps.specs.Steps.{shown_at, shown_in, Judges}
 use Rattle.steps.specs.declared.Judged.{Judged}
-use Rattle.checking.specs.Walks.{Walkable, Walking, Walked}
+use Rattle.checking.specs.Walks.{Walking, Walked}
 use Rattle.steps.proofs.Counting.{length-counted, counted-snoc, counted_same, get_d-counted}
 
 module _ (cs : List Credential) (t : StepLists) where
@@ -46,22 +46,12 @@ module _ (roles sets levels : List ℕ) (i r l : ℕ) where
       ap₂ {C = Shown} (λ (x y : ℕ). record { role = x; set = get_or sets i 0; level = y }) (get_or-set_same roles i r 0 h) (get_or-set_same levels i l 0 k)
 
 module _ (cs : List Credential) (m : ℕ) (t : StepLists) where
-  pub walking-none : (roles levels : List ℕ) → length roles ≡ 1024 → length levels ≡ 1024 → Walking cs m t roles levels 0
-  walking-none roles levels a b = record { rooms = (a, b); kept = λ j h. absurd (not-suc-le-zero h); shown = refl; low = λ j h. absurd (not-suc-le-zero h) }
-
-  pub known : {c n i : ℕ} {roles levels : List ℕ} → Walkable c t n → i < n → Walking cs m t roles levels i → Known t.sets levels i
-  known k h w = let s = k.sets in let e = k.few in record { long = omega arith; few = omega arith; low = w.low }
-
   module _ {roles levels : List ℕ} {i : ℕ} (w : Walking cs m t roles levels i) {s : Step} {x : Judged} (same : s ≡ step_in t i) (judged : Judges cs m (shown_in roles t.sets levels i) s x) where
     j : Judges cs m (shown_in roles t.sets levels i) (step_in t i) x
     j = subst (λ (s : Step). Judges cs m (shown_in roles t.sets levels i) s x) same judged
 
     tested : step_holds cs m (steps_in t i) (step_in t i) ≡ x.holds
     tested = sym (j.holds ∙ ap (λ (b : List Shown). ltb (step_in t i).credential (length cs) && keeps m (credited_at cs t i) b (step_in t i)) w.shown)
-
-    -- a step that breaks the rules
-    pub walk-stops : {n role set level : ℕ} → i < n → x.holds ≡ false → Walked cs m t n (record { count = i; role = role; set = set; level = level })
-    walk-stops h e = record { within = omega arith; kept = w.kept; stops = λ _. tested ∙ e; last = λ l. absurd (omega arith) }
 
     -- a step that keeps them
     module _ (h : i < 1024) (e : x.holds ≡ true) where
@@ -90,12 +80,10 @@ module _ (cs : List Credential) (m : ℕ) (t : StepLists) where
           }
 
   -- all keep them
-  module _ {n : ℕ} (some : 1 ≤ n) {roles levels : List ℕ} {i : ℕ} (h : n ≤ i) (k : i ≤ n) (w : Walking cs m t roles levels i) where
+  module _ {n : ℕ} (some : 1 ≤ n) {roles levels : List ℕ} (w : Walking cs m t roles levels n) where
     last-shown : shown_at roles t.sets levels (n - 1) ≡ last_shown cs t n
     last-shown =
-        let whole : i ≡ n = omega arith in
-        sym (get_d-counted (shown_at roles t.sets levels) i (n - 1) nothing (omega arith)) ∙ ap (λ (b : List Shown). get_or b (n - 1) nothing) w.shown
-        ∙ ap (λ (k : ℕ). get_or (shown_by cs [] (steps_in t k)) (n - 1) nothing) whole
+        sym (get_d-counted (shown_at roles t.sets levels) n (n - 1) nothing (omega arith)) ∙ ap (λ (b : List Shown). get_or b (n - 1) nothing) w.shown
 
-    pub walk_ends : Walked cs m t n (record { count = i; role = get_or roles (n - 1) 0; set = get_or t.sets (n - 1) 0; level = get_or levels (n - 1) 0 })
-    walk_ends = record { within = k; kept = w.kept; stops = λ l. absurd (omega arith); last = λ _. last-shown }
+    pub walk_ends : Walked cs m t n (record { count = n; role = get_or roles (n - 1) 0; set = get_or t.sets (n - 1) 0; level = get_or levels (n - 1) 0 })
+    walk_ends = record { within = le_refl n; kept = w.kept; stops = λ l. absurd (omega arith); last = λ _. last-shown }

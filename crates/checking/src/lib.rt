@@ -109,26 +109,26 @@ fn walk(
 {
     let mut roles = [0u32; 1024];
     let mut levels = [0u32; 1024];
-    let mut i = 0;
-    while i < steps {
+    for i in 0..steps {
         let s = step_at(credential, first, second, sets, i);
         let x = steps::judge_step(policy, n, minute, i, s, &roles, sets, &levels);
         if !x.holds {
-            break;
+            return Kept {
+                count: i,
+                role: 0,
+                set: 0,
+                level: 0,
+            };
         }
         roles[i] = x.role;
         levels[i] = x.level;
-        i += 1;
     }
     let last = steps - 1;
-    let role = roles[last];
-    let set = sets[last];
-    let level = levels[last];
     Kept {
-        count: i,
-        role,
-        set,
-        level,
+        count: steps,
+        role: roles[last],
+        set: sets[last],
+        level: levels[last],
     }
 }
 

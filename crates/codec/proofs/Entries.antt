@@ -8,7 +8,7 @@ use native.Mathlib.Nat.{mul-suc, mul-zero, pow-zero, pow-suc, pow-le-pow_right, 
 use native.Mathlib.Numerals.{add-one}
 use native.Mathlib.Omega.{arith}
 use lib.ListN.{length, take, drop, get_or, set, replicate, length-append, length-set, replicate-append-replicate}
-use lib.Seq.{drop-cons, take_at, drop_at, take-suc, drop-append-add, drop-drop, length-take-le, set_at, append_snoc, take-suc-set, take_all}
+use lib.Seq.{drop-cons, take_at, drop_at, take-suc, drop-append-add, drop-drop, length-take-le, set_at, append_snoc, take-suc-set}
 use borrow.Rule.Slice.PartMut.{mid_of, put_mid, Post-is, mid_len, same_len_mid}
 use Rattle.codec.specs.Bytes.{bytes, entry, bytes_of, first_entries, entries}
 
@@ -54,11 +54,6 @@ pub record Read (bs : List ℕ) (i number : ℕ) : Type 0 where
   pub same : number ≡ entry (length bs - i) (drop i bs)
   pub below : number < 256 ^ (length bs - i)
 
-pub read_none : (bs : List ℕ) → Read bs (length bs) 0
-read_none bs =
-    let e : length bs - length bs ≡ 0 = omega arith in
-    record { within = omega arith; same = rw e refl; below = rw e (omega arith) }
-
 -- the byte before makes it one byte more
 pub read_more : (bs : List ℕ) (i number : ℕ) → Read bs i number → 0 < i → {b : ℕ} → b ≡ get_or bs (i - 1) 0 → b < 256 → Read bs (i - 1) (b + 256 * number)
 read_more bs i number r some {b} e l =
@@ -70,32 +65,17 @@ read_more bs i number r some {b} e l =
       below = rw (longer, pow-suc 256 (length bs - i)) (omega (arith, r.below));
     }
 
-pub read_all : (bs : List ℕ) (i number : ℕ) → Read bs i number → i ≤ 0 → (number ≡ entry (length bs) bs) × (number < 256 ^ length bs)
-read_all bs i number r h =
-    let e : i ≡ 0 = omega arith in
-    let n : length bs - i ≡ length bs = omega arith in
-    (r.same ∙ ap₂ (λ (k j : ℕ). entry k (drop j bs)) n e, rw n at r.below)
-
 -- at most 8 bytes fit 64 bits
 pub eight-fit : (bs : List ℕ) (i number : ℕ) → Read bs i number → length bs ≤ 8 → number < 2 ^ 64
 eight-fit bs i number r h =
     let few : length bs - i ≤ 8 = omega arith in
     omega (arith, r.below, pow-le-pow_right {n = 256} (omega arith) few)
 
-pub put-none : (n x : ℕ) → bytes (n - 0) x ≡ bytes n x
-put-none n x = let e : n - 0 ≡ n = omega arith in rw e refl
-
 -- with i bytes of n written, the next makes it one more
 pub put-more : (n i y : ℕ) (l b : List ℕ) → i < n → length l ≡ n → take i l ++ bytes (n - i) y ≡ b → take (i + 1) (set l i (y % 256)) ++ bytes (n - (i + 1)) (y / 256) ≡ b
 put-more n i y l b h s e =
     let m : n - i ≡ suc (n - suc i) = omega arith in
     rw (add-one, take-suc-set l i (y % 256) (omega arith)) (append_snoc (take i l) (y % 256) (bytes (n - suc i) (y / 256)) ∙ (rw m at e))
-
-pub put_all : (n i y : ℕ) (l b : List ℕ) → n ≤ i → length l ≡ n → take i l ++ bytes (n - i) y ≡ b → l ≡ b
-put_all n i y l b h s e =
-    let m : n - i ≡ 0 = omega arith in
-    let t : take i l ≡ l = take_all i l (omega arith) in
-    sym (append-nil l) ∙ (rw (t, m) at e)
 
 -- ---- lists of entries
 
@@ -165,9 +145,6 @@ pub record Decoded (k n : ℕ) (bs d : List ℕ) (i : ℕ) (l : List ℕ) : Type
   pub same : l ≡ first_entries k i bs ++ drop i d
 
 module _ (k n : ℕ) (bs d : List ℕ) where
-  pub decode-none : Decoded k n bs d 0 d
-  decode-none = record { within = omega arith; long = refl; same = refl }
-
   pub decode-more : (i : ℕ) {l : List ℕ} → Decoded k n bs d i l → i < n → n ≤ length d → k * i + k ≤ length bs → {x : ℕ} → x ≡ entry (length (part k i bs)) (part k i bs) → Decoded k n bs d (i + 1) (set l i x)
   decode-more i {l} r low room h {x} v =
       let e : set l i x ≡ first_entries k (i + 1) bs ++ drop (i + 1) d =
@@ -177,9 +154,6 @@ module _ (k n : ℕ) (bs d : List ℕ) where
       ∙ ap₂ (λ (y : List ℕ) (m : ℕ). y ++ drop m d) (sym (first-suc k i bs) ∙ ap (λ (m : ℕ). first_entries k m bs) (sym (add-one i))) (sym (add-one i)) in
       record { within = omega arith; long = length-set l i x ∙ r.long; same = e }
 
-  pub decode-all : (i : ℕ) {l : List ℕ} → Decoded k n bs d i l → n ≤ i → l ≡ first_entries k n bs ++ drop n d
-  decode-all i r h = let e : i ≡ n = omega (arith, r.within) in r.same ∙ ap (λ (m : ℕ). first_entries k m bs ++ drop m d) e
-
 -- the bytes of i of n entries of s in the list d
 pub record Encoded (k n : ℕ) (s d : List ℕ) (i : ℕ) (l : List ℕ) : Type 0 where
   pub within : i ≤ n
@@ -187,9 +161,6 @@ pub record Encoded (k n : ℕ) (s d : List ℕ) (i : ℕ) (l : List ℕ) : Type 
   pub same : l ≡ bytes_of k (take i s) ++ drop (k * i) d
 
 module _ (k n : ℕ) (s d : List ℕ) where
-  pub encode-none : Encoded k n s d 0 d
-  encode-none = record { within = omega arith; long = refl; same = ap (λ (m : ℕ). drop m d) (sym (mul-zero k)) }
-
   pub encode-more : (i : ℕ) {l : List ℕ} → Encoded k n s d i l → i < n → n ≤ length s → k * i + k ≤ length d → {t : List ℕ} → length t ≡ length (part k i l) → t ≡ bytes (length (part k i l)) (get_or s i 0) → Encoded k n s d (i + 1) (put_mid (k * i) (k * i + k - k * i) l t)
   encode-more i {l} r low few h {t} z v =
       let p = bytes_of k (take i s) in

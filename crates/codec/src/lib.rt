@@ -9,11 +9,9 @@ pub fn decode32(dst: &mut [u32], src: &[u8], n: usize)
     requires { (n ≤ length dst.old) × (4 * n ≤ length src.now) }
     ensures { dst.new ≡ first_entries 4 n src.now ++ drop n dst.old }
 {
-    let mut i = 0;
-    while i < n {
+    for i in 0..n {
         let at = 4 * i;
         dst[i] = get(&src[at..at + 4]) as u32;
-        i += 1;
     }
 }
 
@@ -22,11 +20,9 @@ pub fn encode32(dst: &mut [u8], src: &[u32], n: usize)
     requires { (n ≤ length src.now) × (4 * n ≤ length dst.old) }
     ensures { dst.new ≡ bytes_of 4 (take n src.now) ++ drop (4 * n) dst.old }
 {
-    let mut i = 0;
-    while i < n {
+    for i in 0..n {
         let at = 4 * i;
         put(&mut dst[at..at + 4], src[i] as u64);
-        i += 1;
     }
 }
 
@@ -35,11 +31,9 @@ pub fn encode64(dst: &mut [u8], src: &[u64], n: usize)
     requires { (n ≤ length src.now) × (8 * n ≤ length dst.old) }
     ensures { dst.new ≡ bytes_of 8 (take n src.now) ++ drop (8 * n) dst.old }
 {
-    let mut i = 0;
-    while i < n {
+    for i in 0..n {
         let at = 8 * i;
         put(&mut dst[at..at + 8], src[i]);
-        i += 1;
     }
 }
 
@@ -49,9 +43,7 @@ pub fn get(src: &[u8]) -> u64
     ensures { (result ≡ entry (length src.now) src.now) × (result < 256 ^ length src.now) }
 {
     let mut number: u64 = 0;
-    let mut i = src.len();
-    while 0 < i {
-        i -= 1;
+    for i in (0..src.len()).rev() {
         number = widths::wide8(src[i]) as u64 + 256 * number;
     }
     number
@@ -62,10 +54,8 @@ pub fn put(dst: &mut [u8], x: u64)
     ensures { dst.new ≡ bytes (length dst.old) x }
 {
     let mut rest = x;
-    let mut i = 0;
-    while i < dst.len() {
+    for i in 0..dst.len() {
         dst[i] = (rest % 256) as u8;
         rest /= 256;
-        i += 1;
     }
 }

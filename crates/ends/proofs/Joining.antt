@@ -14,7 +14,6 @@ use Rattle.meaning.specs.Credentials.{Period}
 use Rattle.meaning.specs.Table.{bit, extended, intervals_to}
 use Rattle.ends.specs.declared.Interval.{Interval}
 use Rattle.ends.specs.Intervals.{pair, no_pair, pairs}
-use Rattle.ends.specs.Joining.{joined_to}
 
 abbrev span : ℕ → ℕ → Period
 span e f = record { from = e; until = f }
@@ -156,7 +155,3 @@ module _ (es : List ℕ) (spans i : ℕ) (at : List Interval) (n : ℕ) (now : P
   turn-further h z k =
       rw (turn_on h, now.places, now.count)
       (further (get_or es i 0) (get_or es (i + 1) 0) (intervals_to es spans i) (omega (arith, now.count)) (rw (now.places, now.count) at k))
-
-pub placed-all : (es : List ℕ) (spans : ℕ) {i m n : ℕ} {at : List Interval} → Placed (intervals_to es spans i) at n → i ≡ m
-    → record { number = 0; place = 0; count = n; intervals = at } ≡ joined_to es spans m
-placed-all es spans p e = (λ j. record { number = 0; place = 0; count = p.count j; intervals = p.places j }) ∙ ap (joined_to es spans) e

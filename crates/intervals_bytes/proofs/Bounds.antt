@@ -5,7 +5,7 @@ use Prim.Native.Nat.{ℕ, zero, suc, ◌+◌, ◌-◌, ◌*◌, ◌≤◌, ◌<�
 use native.Mathlib.Numerals.{add-one}
 use native.Mathlib.Omega.{arith}
 use lib.ListN.{length, take, get_or, set, replicate, length-set}
-use lib.Seq.{take-suc, take-suc-set, take_all}
+use lib.Seq.{take-suc, take-suc-set}
 use Rattle.meaning.specs.Credentials.{Period}
 use Rattle.ends.specs.declared.Interval.{Interval}
 use Rattle.survey.specs.Ends.{padded}
@@ -26,30 +26,21 @@ pub record Placed (vs : List Interval) (i : ℕ) (l : List ℕ) : Type 0 where
   pub long : length l ≡ 64
   pub same : take (2 * i) l ≡ bounds_in (take i vs)
 
-module _ (vs : List Interval) where
-  pub none-placed : {l : List ℕ} → length l ≡ 64 → Placed vs 0 l
-  none-placed e = record { within = omega arith; long = e; same = refl }
-
-  module _ (all : length vs ≡ 32) where
-    pub one_more : (i : ℕ) {l : List ℕ} → Placed vs i l → i < 32 → Placed vs (i + 1) (set (set l (2 * i) (get_or vs i no_pair).from) (2 * i + 1) (get_or vs i no_pair).to)
-    one_more i {l} p h =
-        let v = get_or vs i no_pair in
-        let m = set l (2 * i) v.from in
-        let k = p.long in
-        let s : length m ≡ 64 = length-set l (2 * i) v.from ∙ k in
-        let n : 2 * (i + 1) ≡ suc (2 * i + 1) = omega arith in
-        let t : take (2 * (i + 1)) (set m (2 * i + 1) v.to) ≡ bounds_in (take (i + 1) vs) =
-        ap (λ (j : ℕ). take j (set m (2 * i + 1) v.to)) n ∙ take-suc-set m (2 * i + 1) v.to (omega arith)
-        ∙ ap (λ (j : ℕ). take j m ++ (v.to ∷ [])) (add-one (2 * i)) ∙ ap (λ (x : List ℕ). x ++ (v.to ∷ [])) (take-suc-set l (2 * i) v.from (omega arith))
-        ∙ append_assoc (take (2 * i) l) (v.from ∷ []) (v.to ∷ []) ∙ ap (λ (x : List ℕ). x ++ (v.from ∷ v.to ∷ [])) p.same
-        ∙ sym (bounds-append (take i vs) (v ∷ []))
-        ∙ ap bounds_in (sym (take-suc vs i no_pair (omega arith)) ∙ ap (λ (j : ℕ). take j vs) (sym (add-one i))) in
-        record { within = omega arith; long = length-set m (2 * i + 1) v.to ∙ s; same = t }
-
-    pub all_placed : (i : ℕ) {l : List ℕ} → Placed vs i l → 32 ≤ i → l ≡ bounds_in vs
-    all_placed i {l} p h =
-        let k = p.long in
-        sym (take_all (2 * i) l (omega arith)) ∙ p.same ∙ ap bounds_in (take_all i vs (omega arith))
+module _ (vs : List Interval) (all : length vs ≡ 32) where
+  pub one_more : (i : ℕ) {l : List ℕ} → Placed vs i l → i < 32 → Placed vs (i + 1) (set (set l (2 * i) (get_or vs i no_pair).from) (2 * i + 1) (get_or vs i no_pair).to)
+  one_more i {l} p h =
+      let v = get_or vs i no_pair in
+      let m = set l (2 * i) v.from in
+      let k = p.long in
+      let s : length m ≡ 64 = length-set l (2 * i) v.from ∙ k in
+      let n : 2 * (i + 1) ≡ suc (2 * i + 1) = omega arith in
+      let t : take (2 * (i + 1)) (set m (2 * i + 1) v.to) ≡ bounds_in (take (i + 1) vs) =
+      ap (λ (j : ℕ). take j (set m (2 * i + 1) v.to)) n ∙ take-suc-set m (2 * i + 1) v.to (omega arith)
+      ∙ ap (λ (j : ℕ). take j m ++ (v.to ∷ [])) (add-one (2 * i)) ∙ ap (λ (x : List ℕ). x ++ (v.to ∷ [])) (take-suc-set l (2 * i) v.from (omega arith))
+      ∙ append_assoc (take (2 * i) l) (v.from ∷ []) (v.to ∷ []) ∙ ap (λ (x : List ℕ). x ++ (v.from ∷ v.to ∷ [])) p.same
+      ∙ sym (bounds-append (take i vs) (v ∷ []))
+      ∙ ap bounds_in (sym (take-suc vs i no_pair (omega arith)) ∙ ap (λ (j : ℕ). take j vs) (sym (add-one i))) in
+      record { within = omega arith; long = length-set m (2 * i + 1) v.to ∙ s; same = t }
 
 -- ---- the places
 

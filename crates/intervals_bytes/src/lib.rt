@@ -40,12 +40,10 @@ fn bounds_of(intervals: [Interval; 32]) -> [u32; 64]
     ensures { result ≡ bounds_in intervals }
 {
     let mut bounds = room();
-    let mut i = 0;
-    while i < 32 {
+    for i in 0..32 {
         let v = intervals[i];
         bounds[2 * i] = v.from;
         bounds[2 * i + 1] = v.to;
-        i += 1;
     }
     bounds
 }
