@@ -35,7 +35,8 @@ impl<const N: usize> Text<N> {
 
     // What was put.
     pub fn as_bytes(&self) -> &[u8]
-        ensures { result.now ≡ self.now }
+        ensures text { result.now ≡ self.now }
+        ensures within { length result.now ≤ N }
     {
         &self.bytes[..self.end]
     }
