@@ -192,7 +192,7 @@ extern "C" {
      credentials other than sets, by what they use    14,404
      sets that wait to be given to several roles         776
      marks, while a proof is kept                      2,050
-     frames                                              739
+     frames                                              715
 
    and while the file is judged, in the room of what comes later, 4,096 for its credentials. A level is in none of them: it is
    counted when the membership is found. */
