@@ -53,9 +53,10 @@ impl<const N: usize> Text<N> {
         requires { length self.old + length bytes.now ≤ N }
         ensures { self.new ≡ self.old ++ bytes.now }
     {
-        for b in bytes {
-            self.put_byte(*b);
-        }
+        let end = self.end + bytes.len();
+        let all: &mut [u8] = &mut self.bytes;
+        all[self.end..end].copy_from_slice(bytes);
+        self.end = end;
     }
 
     // A number, of at most ten digits.
@@ -64,9 +65,8 @@ impl<const N: usize> Text<N> {
         ensures text { self.new ≡ self.old ++ decimal x }
         ensures within { length self.new ≤ length self.old + 10 }
     {
-        let mut digits = [0u8; 10];
-        let n = put_digits(&mut digits, x);
-        self.put_bytes(&digits[..n]);
+        let all: &mut [u8] = &mut self.bytes;
+        self.end += put_digits(&mut all[self.end..], x);
     }
 
     // A number and the byte after it.
@@ -75,23 +75,26 @@ impl<const N: usize> Text<N> {
         ensures text { self.new ≡ self.old ++ field x end }
         ensures within { length self.new ≤ length self.old + 11 }
     {
-        self.put_decimal(x);
-        self.put_byte(end);
+        let all: &mut [u8] = &mut self.bytes;
+        let n = put_digits(&mut all[self.end..], x);
+        all[self.end + n] = end;
+        self.end += n + 1;
     }
 }
 
 // Puts the decimal of a number at the start, and returns how many digits it has.
-fn put_digits(digits: &mut [u8; 10], x: u32) -> usize
+fn put_digits(digits: &mut [u8], x: u32) -> usize
+    requires { 10 ≤ length digits.old }
     ensures count { result ≡ length (decimal x) }
+    ensures few { result ≤ 10 }
     ensures text { take result digits.new ≡ decimal x }
 {
-    let last_digit = b'0' + (x % 10) as u8;
     if x < 10 {
-        digits[0] = last_digit;
+        digits[0] = b'0' + (x % 10) as u8;
         return 1;
     }
     let last = put_digits(digits, x / 10);
-    digits[last] = last_digit;
+    digits[last] = b'0' + (x % 10) as u8;
     last + 1
 }
 

@@ -21,3 +21,6 @@ returns-clause-text t c =
     let m = length_more c.args.x c.if-x-lt10.false c.ranges.x.fits in
     take_more_set _ _ _ (omega (arith, decimal-length c.args.x))
     ∙ rw (c.put_digits-last.ensures.text, decimal-more c.args.x c.if-x-lt10.false c.ranges.x.fits)
+
+pub returns-clause-few : goal.returns-clause-few
+returns-clause-few t c = omega (arith, decimal-length c.args.x, length_more c.args.x c.if-x-lt10.false c.ranges.x.fits)
