@@ -131,6 +131,9 @@ marked_turn notes x i marks marks' before small some h g e =
     subst⁻¹ (Marked notes x (i - 1)) e
     (spread-marked notes x (i - 1) marks (subst⁻¹ (λ (j : ℕ). Marked notes x j marks) back g) (omega arith) cites.0 cites.1)
 
+pub marked_all : {notes : List ℕ} {x i : ℕ} {marks : List ℕ} → i ≤ 0 → Marked notes x i marks → Marked notes x 0 marks
+marked_all {notes} {x} {i} {marks} h g = let e : i ≡ 0 = omega arith in subst (λ (j : ℕ). Marked notes x j marks) e g
+
 -- ---- marks in a list whose place 0 is for words that cite nothing
 
 pub shifted : (l : List ℕ) (j : ℕ) → get_or (drop 1 l) j 0 ≡ get_or l (suc j) 0

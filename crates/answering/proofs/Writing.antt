@@ -3,7 +3,7 @@ use mathlib.Core.Path.{◌≡◌, refl, sym, ap, ◌∙◌}
 use mathlib.Core.List.{List, [], ◌∷◌, ◌++◌, map}
 use Prim.Native.Nat.{ℕ, ◌+◌, ◌-◌, ◌<◌}
 use native.Mathlib.Numerals.{add-one}
-use lib.ListN.{length, set, take, replicate}
+use lib.ListN.{length, set, take, replicate, length-set}
 use lib.Seq.{take-suc-set}
 use Rattle.meaning.specs.Lists.{below}
 use Rattle.meaning.specs.Proofs.{Step}
@@ -13,12 +13,17 @@ use Rattle.answering.specs.Steps.{step_at, steps_in}
 
 -- ---- the first i places of a list have the values of f
 
-abbrev pub Filled : (ℕ → ℕ) → List ℕ → ℕ → Type 0
-Filled f l i = take i l ≡ map f (below i)
+abbrev pub Filled : (ℕ → ℕ) → List ℕ → List ℕ → ℕ → Type 0
+Filled f l₀ l i = (length l ≡ length l₀) × (take i l ≡ map f (below i))
 
-pub filled_more : (f : ℕ → ℕ) (l : List ℕ) (i v : ℕ) → i < length l → v ≡ f i → Filled f l i → Filled f (set l i v) (i + 1)
-filled_more f l i v h e b =
-    ap (λ (n : ℕ). take n (set l i v)) (add-one i) ∙ take-suc-set l i v h ∙ (λ u. b u ++ e u ∷ []) ∙ sym (map-below-next f i) ∙ ap (λ (n : ℕ). map f (below n)) (sym (add-one i))
+pub filled_none : (f : ℕ → ℕ) (l : List ℕ) → Filled f l l 0
+filled_none f l = (refl, refl)
+
+pub filled_more : (f : ℕ → ℕ) (l₀ l : List ℕ) (i v : ℕ) → i < length l → v ≡ f i → Filled f l₀ l i → Filled f l₀ (set l i v) (i + 1)
+filled_more f l₀ l i v h e (a, b) = (
+  length-set l i v ∙ a,
+  ap (λ (n : ℕ). take n (set l i v)) (add-one i) ∙ take-suc-set l i v h ∙ (λ u. b u ++ e u ∷ []) ∙ sym (map-below-next f i) ∙ ap (λ (n : ℕ). map f (below n)) (sym (add-one i)),
+)
 
 -- ---- as the words of the steps
 

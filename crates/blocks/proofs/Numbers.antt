@@ -1,13 +1,45 @@
--- A number of four bytes, and the bytes that are written for it.
-use mathlib.Core.Path.{◌≡◌, sym, ap, ◌∙◌}
+-- A number of four bytes: as an entry, and from the bytes that are written for it.
+use mathlib.Core.Path.{◌≡◌, refl, sym, ap, ap₂, ◌∙◌}
 use mathlib.Core.List.{List, [], ◌∷◌}
 use Prim.Native.Nat.{ℕ, zero, suc, ◌+◌, ◌-◌, ◌*◌, ◌/◌, ◌%◌, ◌≤◌, ◌<◌}
 use native.Mathlib.Omega.{arith}
 use lib.ListN.{length, take, drop, get_or}
 use lib.Seq.{get_or-drop, ext_get_or, get_or-take}
-use borrow.Rule.Slice.PartMut.{mid_len}
+use borrow.Rule.Slice.PartMut.{mid_of, mid_len}
 use Rattle.file.specs.Format.{byte, four}
-use Rattle.codec.specs.Bytes.{bytes}
+use Rattle.codec.specs.Bytes.{bytes, entry}
+use Rattle.codec.proofs.Entries.{entry-take}
+
+-- the first four bytes
+entry-start : (bs : List ℕ) → entry 4 bs ≡ four bs 0
+entry-start [] = refl
+entry-start (a ∷ []) = omega arith
+entry-start (a ∷ b ∷ []) = omega arith
+entry-start (a ∷ b ∷ c ∷ []) = omega arith
+entry-start (a ∷ b ∷ c ∷ d ∷ bs) = omega arith
+
+-- the number at p of the bytes from p on
+four-drop : (s : List ℕ) (p : ℕ) → four (drop p s) 0 ≡ four s p
+four-drop s p =
+    let a : get_or (drop p s) 0 0 ≡ get_or s (p + 0) 0 = get_or-drop p s 0 0 in
+    let b : get_or (drop p s) 1 0 ≡ get_or s (p + 1) 0 = get_or-drop p s 1 0 in
+    let c : get_or (drop p s) 2 0 ≡ get_or s (p + 2) 0 = get_or-drop p s 2 0 in
+    let d : get_or (drop p s) 3 0 ≡ get_or s (p + 3) 0 = get_or-drop p s 3 0 in
+    let z : p + 0 ≡ p = omega arith in
+    let t : p + 3 ≡ p + 2 + 1 = omega arith in
+    let a' : get_or (drop p s) 0 0 ≡ get_or s p 0 = a ∙ ap (λ (n : ℕ). get_or s n 0) z in
+    let d' : get_or (drop p s) 3 0 ≡ get_or s (p + 2 + 1) 0 = d ∙ ap (λ (n : ℕ). get_or s n 0) t in
+    λ i. a' i + 256 * b i + 65536 * (c i + 256 * d' i)
+
+pub entry-four : (s : List ℕ) (p : ℕ) → entry 4 (drop p s) ≡ four s p
+entry-four s p = entry-start (drop p s) ∙ four-drop s p
+
+-- a part of four bytes as a number
+pub part-four : (s : List ℕ) (p : ℕ) → p + 4 ≤ length s → entry (length (mid_of p (p + 4 - p) s)) (mid_of p (p + 4 - p) s) ≡ four s p
+part-four s p h =
+    let k : p + 4 - p ≡ 4 = omega arith in
+    let l : length (mid_of p (p + 4 - p) s) ≡ 4 = mid_len p (p + 4) s h ∙ k in
+    ap₂ (λ (m n : ℕ). entry m (take n (drop p s))) l k ∙ entry-take 4 (drop p s) ∙ entry-four s p
 
 mod-more : (y k : ℕ) → (y + 256 * k) % 256 ≡ y % 256
 mod-more y k = omega arith

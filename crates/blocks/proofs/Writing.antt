@@ -1,11 +1,11 @@
 -- Laws of `written`: one part after the other is both together, and a loop that writes blocks of k bytes.
 use mathlib.Core.Path.{◌≡◌, sym, ap, ap₂, ◌∙◌}
-use mathlib.Core.List.{List, ◌++◌, append_assoc, append-nil}
+use mathlib.Core.List.{List, [], ◌++◌, append_assoc, append-nil}
 use Prim.Native.Nat.{ℕ, zero, suc, ◌+◌, ◌-◌, ◌*◌, ◌≤◌, ◌<◌}
 use native.Mathlib.Nat.{mul-suc, add-zero}
 use native.Mathlib.Numerals.{add-one}
 use native.Mathlib.Omega.{arith}
-use lib.ListN.{length, take, drop, length-append, length-drop}
+use lib.ListN.{length, take, drop, length-append, length-drop, take-append-drop}
 use lib.Seq.{take_at, drop-append-add, drop-drop, length-take-le, drop-length}
 use borrow.Rule.Slice.PartMut.{mid_of, mid_len}
 use Rattle.meaning.specs.Lists.{each, up_from, below}
@@ -14,6 +14,11 @@ use Rattle.codec.proofs.Entries.{length-bytes}
 use Rattle.blocks.specs.Blocks.{written}
 
 -- ---- one part
+
+pub written_none : (d : List ℕ) (at : ℕ) → d ≡ written d at []
+written_none d at =
+    let z : at ≡ at + 0 = omega arith in
+    sym (take-append-drop at d) ∙ ap₂ (λ (l : List ℕ) (n : ℕ). l ++ drop n d) (sym (append-nil (take at d))) z
 
 module _ (d : List ℕ) (at : ℕ) (t : List ℕ) (room : at + length t ≤ length d) where
   front_length : length (take at d ++ t) ≡ at + length t

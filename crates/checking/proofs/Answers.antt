@@ -1,28 +1,28 @@
 -- The answers of checking: the first step that breaks the rules, another membership, or the level.
-use mathlib.Core.Path.{◌≡◌, refl, sym, ap, ◌∙◌, subst, subst⁻¹}
+use mathlib.Core.Path.{◌≡◌, refl, sym, ap, ◌∙◌, subst}
 use mathlib.Core.Bool.{Bool, true, false, ◌&&◌, not}
 use mathlib.Core.List.{List, [], ◌∷◌, ◌++◌, map}
 use Prim.Native.Nat.{ℕ, zero, suc, ◌+◌, ◌<◌, ◌≤◌}
 use native.Mathlib.Omega.{arith}
 use borrow.Author.Tests.{ltb-true, ltb-false}
-use lib.Dec.{T, eqb, leb, ltb, leb→le, eqb→eq}
-use lib.ListN.{length, take}
-use lib.Seq.{length-take-le}
+use lib.Dec.{eqb, ltb}
+use lib.ListN.{length}
 use Rattle.meaning.specs.Lists.{if, up_from, below}
 use Rattle.meaning.specs.Credentials.{Credential}
 use Rattle.meaning.specs.Proofs.{Shown}
-use Rattle.meaning.proofs.Tests.{and_left, and_right}
 use Rattle.policy.specs.Policy.{credentials_of}
+use Rattle.file.specs.declared.Refusal.{Refusal}
 use Rattle.file.specs.Refusals.{RefusalRow, Outcome, done, refused, first, ◌at◌when◌}
 use Rattle.file.specs.Reading.{between}
 use Rattle.withdrawals.specs.Source.{Source, credentials}
-use Rattle.asking.specs.Asking.{Request, StepLists, step_in, steps_in, size, one_length, Sized, Askable}
+use Rattle.asking.specs.Asking.{Request, StepLists, step_in, steps_in, size, Sized, Askable}
 use Rattle.asking.specs.declared.Admission.{Admission}
 use Rattle.asking.specs.Admitting.{Admits}
-use Rattle.asking.proofs.Asked.{askable-passes, asked-refused, asked-passed, askable}
+use Rattle.asking.proofs.Asked.{askable-passes}
 use Rattle.checking.specs.declared.Kept.{Kept}
 use Rattle.checking.specs.Checking.{step_holds, last_shown, last_row, part_before, proof_rows, checking}
 use Rattle.checking.specs.Walks.{Walkable, Walked, concluded_by, concluding}
+use Rattle.checking.proofs.Refusals as refusals
 
 -- ---- the rows of 15, where `test i` says that step i holds
 
@@ -84,7 +84,7 @@ module _ (cs : List Credential) (q : Request) (t : StepLists) (n : ℕ) where
 
   -- by how many steps keep the rules
   module _ {k : Kept} (w : Walked cs q.minute t n k) where
-    walk-concludes : concluded_by k q.role q.set n ≡ concluding cs q t n
+    pub walk-concludes : concluded_by k q.role q.set n ≡ concluding cs q t n
     walk-concludes = go (ltb k.count n) refl
       where
         by_last : n ≤ k.count → (b : Bool) → asked q (record { role = k.role; set = k.set; level = k.level }) ≡ b → if b (done k.level) (refused 16 0) ≡ concluding cs q t n
@@ -112,43 +112,23 @@ module _ (f : Source) (q : Request) (t : StepLists) (n : ℕ) where
     e : Admits f q t p j
     e = judged t (record { credential = refl; first = refl; second = refl; sets = refl })
 
+    -- its refusal, or none
+    abbrev said : Refusal
+    said = record { number = j.number; place = j.place }
+
     pub request-refused : (j.number ≡ 0 → ⊥) → refused j.number j.place ≡ checking f q t n
-    unfolding checking
-    request-refused h = sym (asked-refused f q t (record { number = j.number; place = j.place }) e.refusal h (proof_rows (credentials f) q t n) level)
+    request-refused h = refusals.request-refused f q t n said e.refusal h
 
     module _ (z : j.number ≡ 0) where
-      passed : first (proof_rows (credentials f) q t n) level ≡ checking f q t n
-      unfolding checking
-      passed = sym (asked-passed f q t (record { number = j.number; place = j.place }) e.refusal z (proof_rows (credentials f) q t n) level)
-
       pub count-refused : between 1 (size t) n ≡ false → refused 14 0 ≡ checking f q t n
-      count-refused b = rw b at passed
+      count-refused b = refusals.count-refused f q t n said e.refusal z b
 
       module _ (b : between 1 (size t) n ≡ true) where
-        counted : (1 ≤ n) × (n ≤ size t)
-        counted = let s : T (between 1 (size t) n) = subst⁻¹ T b tt in (leb→le 1 n (and_left (leb 1 n) (leb n (size t)) s), leb→le n (size t) (and_right (leb 1 n) (leb n (size t)) s))
-
         pub walkable : Walkable j.credentials (part_before n t) n
-        walkable =
-            let a = askable f q t (record { number = j.number; place = j.place }) e.refusal z in
-            let s : T (one_length t) = subst⁻¹ T a.lists tt in
-            let x = eqb (length t.first) (size t) in
-            let y = eqb (length t.second) (size t) in
-            let v = eqb (length t.sets) (size t) in
-            let u = between 1 1024 (size t) in
-            let xyv = and_left (x && y && v) u s in
-            let xy = and_left (x && y) v xyv in
-            let ef = eqb→eq (length t.first) (size t) (and_left x y xy) in
-            let es = eqb→eq (length t.second) (size t) (and_right x y xy) in
-            let ev = eqb→eq (length t.sets) (size t) (and_right (x && y) v xyv) in
-            let few = leb→le (size t) 1024 (and_right (leb 1 (size t)) (leb (size t) 1024) (and_right (x && y && v) u s)) in
-            let c = counted in
-            let part : (l : List ℕ) → length l ≡ size t → length (take n l) ≡ n = λ l o. length-take-le n l (omega arith) in
-            record { credentials = (e.policy z).decoded.few; credential = part t.credential refl; first = part t.first ef; second = part t.second es; sets = part t.sets ev; some = c.0; few = omega arith }
+        walkable = refusals.walkable f q t n said e.refusal z b (e.policy z).decoded.few
 
         -- the answer, from the steps
         pub walked-concludes : {k : Kept} → Walked (credentials_of p j.credentials) q.minute (part_before n t) n k → concluded_by k q.role q.set n ≡ checking f q t n
-        unfolding concluding
         walked-concludes {k} w =
             walk-concludes (credentials f) q (part_before n t) n (subst (λ (cs : List Credential). Walked cs q.minute (part_before n t) n k) (e.policy z).means w)
-            ∙ rw b at passed
+            ∙ refusals.count-passed f q t n said e.refusal z b

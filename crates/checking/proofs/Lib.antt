@@ -1,4 +1,5 @@
 pub mod Walks
+pub mod Refusals
 pub mod Answers
 pub mod Passing
 pub mod Parts

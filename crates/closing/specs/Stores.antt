@@ -1,5 +1,5 @@
 -- What entries that give in a pass leave, of a store as one value.
-use Rattle.std.specs.Prelude.{Bool, false, Result, Ok, Err, List, ℕ, ◌+◌, ◌≤◌}
+use Rattle.std.specs.Prelude.{◌≡◌, Bool, false, Result, Ok, Err, List, ℕ, ◌+◌, ◌≤◌}
 use Rattle.store.specs.declared.Store.{Store}
 use Rattle.store.specs.declared.Full.{Full}
 use Rattle.rules.specs.declared.UseLists.{UseLists}
@@ -16,7 +16,7 @@ any_in (Err e) = false
 
 abbrev pub FitsBy : ℕ → ℕ → Result Bool Full → Type 0
 FitsBy limit n (Ok any) = n ≤ limit
-FitsBy limit n (Err e) = Unit
+FitsBy limit n (Err e) = n ≡ limit
 
 -- some entries gave, if any
 pub record GaveAnyIn (limit : ℕ) (u : UseLists) (s : Store) (done : List ℕ) (any : Bool) (s' : Store) (done' : List ℕ) (r : Result Bool Full) : Type 0 where

@@ -8,7 +8,7 @@ use native.Mathlib.Nat.{mul-suc, mul-zero, pow-zero, pow-suc, pow-le-pow_right, 
 use native.Mathlib.Numerals.{add-one}
 use native.Mathlib.Omega.{arith}
 use lib.ListN.{length, take, drop, get_or, set, replicate, length-append, length-set, replicate-append-replicate}
-use lib.Seq.{drop-cons, take_at, drop_at, take-suc, drop-append-add, drop-drop, length-take-le, set_at, append_snoc, take-suc-set}
+use lib.Seq.{drop-cons, take_at, drop_at, take-suc, drop-append-add, drop-drop, length-take-le, set_at, append_snoc, take-suc-set, take_all}
 use borrow.Rule.Slice.PartMut.{mid_of, put_mid, Post-is, mid_len, same_len_mid}
 use Rattle.codec.specs.Bytes.{bytes, entry, bytes_of, first_entries, entries}
 
@@ -54,6 +54,11 @@ pub record Read (bs : List ℕ) (i number : ℕ) : Type 0 where
   pub same : number ≡ entry (length bs - i) (drop i bs)
   pub below : number < 256 ^ (length bs - i)
 
+pub read_none : (bs : List ℕ) → Read bs (length bs) 0
+read_none bs =
+    let e : length bs - length bs ≡ 0 = omega arith in
+    record { within = omega arith; same = rw e refl; below = rw e (omega arith) }
+
 -- the byte before makes it one byte more
 pub read_more : (bs : List ℕ) (i number : ℕ) → Read bs i number → 0 < i → {b : ℕ} → b ≡ get_or bs (i - 1) 0 → b < 256 → Read bs (i - 1) (b + 256 * number)
 read_more bs i number r some {b} e l =
@@ -64,6 +69,12 @@ read_more bs i number r some {b} e l =
       same = rw (longer, drop-cons bs (i - 1) 0 (omega (arith, r.within)), s) (ap₂ (λ (x y : ℕ). x + 256 * y) e r.same);
       below = rw (longer, pow-suc 256 (length bs - i)) (omega (arith, r.below));
     }
+
+pub read_all : (bs : List ℕ) (i number : ℕ) → Read bs i number → i ≤ 0 → (number ≡ entry (length bs) bs) × (number < 256 ^ length bs)
+read_all bs i number r h =
+    let e : i ≡ 0 = omega arith in
+    let n : length bs - i ≡ length bs = omega arith in
+    (r.same ∙ ap₂ (λ (k j : ℕ). entry k (drop j bs)) n e, rw n at r.below)
 
 -- at most 8 bytes fit 64 bits
 pub eight-fit : (bs : List ℕ) (i number : ℕ) → Read bs i number → length bs ≤ 8 → number < 2 ^ 64
@@ -76,6 +87,12 @@ pub put-more : (n i y : ℕ) (l b : List ℕ) → i < n → length l ≡ n → t
 put-more n i y l b h s e =
     let m : n - i ≡ suc (n - suc i) = omega arith in
     rw (add-one, take-suc-set l i (y % 256) (omega arith)) (append_snoc (take i l) (y % 256) (bytes (n - suc i) (y / 256)) ∙ (rw m at e))
+
+pub put_all : (n i y : ℕ) (l b : List ℕ) → n ≤ i → length l ≡ n → take i l ++ bytes (n - i) y ≡ b → l ≡ b
+put_all n i y l b h s e =
+    let m : n - i ≡ 0 = omega arith in
+    let t : take i l ≡ l = take_all i l (omega arith) in
+    sym (append-nil l) ∙ (rw (t, m) at e)
 
 -- ---- lists of entries
 

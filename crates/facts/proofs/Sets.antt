@@ -6,6 +6,7 @@ use Prim.Native.Nat.{ℕ, ◌+◌, ◌≤◌, ◌<◌}
 use native.Mathlib.Omega.{arith}
 use lib.ListN.{get_or}
 use Rattle.meaning.specs.Table.{bit}
+use Rattle.file.proofs.Uses.{by_kind}
 use Rattle.policy.specs.declared.Statement.{Statement}
 use Rattle.policy.specs.Policy.{credential_of, statement_in, body_by}
 use Rattle.std.proofs.Common.{Result, Ok, Err}
@@ -39,8 +40,14 @@ module _ {P : ℕ → Type 0} (i : ℕ) where
 
 -- ---- one credential
 
+-- only kind 0 states a set
+none-stated : (X Bs Ct : ℕ) (k : ℕ) → k ≤ 5 → (k ≡ 0 → ⊥) → (Ar key : ℕ) → States (body_by k X Bs Ct) Ar key → ⊥
+none-stated X Bs Ct =
+    by_kind (λ k. (k ≡ 0 → ⊥) → (Ar key : ℕ) → States (body_by k X Bs Ct) Ar key → ⊥)
+    (λ z _ _ _. z refl) (λ _ _ _ x. x) (λ _ _ _ x. x) (λ _ _ _ x. x) (λ _ _ _ x. x) (λ _ _ _ x. x)
+
 -- a new entry has spans
-added-span : {limit key m : ℕ} {keys spans keys' spans' slots' links' : List ℕ} {n r : ℕ} → Added limit key m keys spans n keys' spans' slots' links' r → r ≤ limit → (r ≡ n → ⊥) → (s : ℕ) × (bit m s ≡ 1)
+pub added-span : {limit key m : ℕ} {keys spans keys' spans' slots' links' : List ℕ} {n r : ℕ} → Added limit key m keys spans n keys' spans' slots' links' r → r ≤ limit → (r ≡ n → ⊥) → (s : ℕ) × (bit m s ≡ 1)
 added-span {key = key} {m} {keys} {spans} {keys'} {spans'} {n = n} {r} a l ne = (b.0, go ((a.exact l (get_or keys' n 0) b.0).0 (n, low, refl, b.1)))
   where
     low : n < r
@@ -57,8 +64,11 @@ module _ (p : List ℕ) (i : ℕ) (es : List ℕ) (count : ℕ) {st : Statement}
   same_kind : (statement_in p i).kind ≡ st.kind
   same_kind = ap (λ (x : Statement). x.kind) (sym q)
 
+  pub other-stated : (statement_in p i).kind ≤ 5 → (st.kind ≡ 0 → ⊥) → (k s : ℕ) → StatedIn es count (credential_of p i) k s → ⊥
+  other-stated h some k s x = let t = statement_in p i in none-stated t.set t.first t.second t.kind h (λ z. some (sym same_kind ∙ z)) t.head k x.0
+
   -- kind 0 states its set in the spans of its period
-  set-stated : (v key : ℕ) → st.kind ≡ 0 → Masked es count (credential_of p i).period v → key ≡ key_of st.head st.set → (k s : ℕ) → One key v k s ↔ StatedIn es count (credential_of p i) k s
+  pub set-stated : (v key : ℕ) → st.kind ≡ 0 → Masked es count (credential_of p i).period v → key ≡ key_of st.head st.set → (k s : ℕ) → One key v k s ↔ StatedIn es count (credential_of p i) k s
   set-stated v key z m e k s = ((λ x. (subst⁻¹ At (same_kind ∙ z) (x.0 ∙ f), (m s).0 x.1)), λ x. (subst At (same_kind ∙ z) x.0 ∙ sym f, (m s).1 x.1))
     where
       t : Statement
@@ -96,4 +106,4 @@ module _ (p es : List ℕ) (count i : ℕ) {limit : ℕ} {s t : Store} (g : Adds
 
   -- too many already
   pub sets_over : {m : ℕ} → i < m → {u : Store} {e : Full} → Adds limit t (StatedIn es count (credential_of p i)) (FactAt es count (credential_of p i) i) u (Err e) → {r : Result Unit Full} → IsErr r → Adds limit s (StatedBy p m es count) (FactBy p m es count) u r
-  sets_over l h none = adds-full none (gains-over (λ k s x. (x.0, omega (arith, x.1), x.2)) (omega arith) (sets-next h).gains)
+  sets_over l h none = adds-full none h.within (gains-over (λ k s x. (x.0, omega (arith, x.1), x.2)) (omega arith) (sets-next h).gains)

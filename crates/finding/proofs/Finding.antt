@@ -1,23 +1,17 @@
 -- What the judging of a request, the search and the lookup come to: a refusal, or an entry.
-use mathlib.Core.Path.{◌≡◌, refl, sym, ap, ◌∙◌, subst⁻¹}
-use mathlib.Core.Bool.{Bool, true, false}
-use mathlib.Core.List.{List, ◌++◌}
+use mathlib.Core.Path.{◌≡◌, refl, sym, ◌∙◌}
+use mathlib.Core.Bool.{true, false}
+use mathlib.Core.List.{List}
 use Prim.Native.Nat.{ℕ, suc, ◌^◌, ◌≤◌, ◌<◌}
 use native.Mathlib.Omega.{arith}
-use borrow.Author.Tests.{lt-ltb, le-ltb, ne_eqb}
 use Rattle.std.specs.Prelude.{Result, Ok, Err}
 use Rattle.std.specs.Result.{is_err}
-use lib.Dec.{ltb}
-use lib.ListN.{length, get_or}
-use Rattle.meaning.specs.Lists.{if}
-use Rattle.meaning.specs.Credentials.{Credential, FitsAll}
-use Rattle.meaning.specs.Members.{member, members, least_level}
+use lib.ListN.{get_or}
+use Rattle.meaning.specs.Credentials.{Credential}
 use Rattle.file.specs.declared.Refusal.{Refusal}
-use Rattle.file.specs.Refusals.{done, refused, first}
 use Rattle.withdrawals.specs.Source.{Source, credentials}
-use Rattle.withdrawals.proofs.Claims.{within-format}
-use Rattle.asking.specs.Asking.{Request, StepLists, Sized, size, asking, Askable}
-use Rattle.asking.proofs.Asked.{asked-refused, askable-passes, askable, same-lengths, within-bits}
+use Rattle.asking.specs.Asking.{Request, StepLists, Sized, size, Askable}
+use Rattle.asking.proofs.Asked.{askable, same-lengths, within-bits}
 use Rattle.store.specs.Entries.{key_of, Stored, Leading, LookedUp}
 use Rattle.store.specs.Notes.{level_of, Leveled}
 use Rattle.store.specs.Store.{reached}
@@ -26,18 +20,13 @@ use Rattle.store.specs.declared.Full.{Full}
 use Rattle.store.proofs.Searches.{leading}
 use Rattle.rules.specs.declared.UseLists.{UseLists}
 use Rattle.levels.specs.Levels.{Rising}
-use Rattle.derivation.specs.Derivation.{Derivation}
 use Rattle.searching.specs.Searching.{Searched}
 use Rattle.searching.specs.Stores.{LoadedIn, SearchedIn}
 use Rattle.finding.specs.declared.Found.{Found}
 use Rattle.finding.specs.declared.Prepared.{Prepared}
-use Rattle.finding.specs.Finding.{search_rows, Finds}
+use Rattle.finding.specs.Finding.{Finds}
 use Rattle.finding.specs.Stores.{PreparesIn}
-use Rattle.finding.proofs.Entries.{members-few, entry_has, no-entry, entry-least}
-
--- the first of the entries are derived too
-first-entries : {cs : List Credential} {m : ℕ} {keys notes : List ℕ} {n k : ℕ} → k ≤ n → Derivation cs m keys notes n → Derivation cs m keys notes k
-first-entries l d = record { derived = λ i h. d.derived i (omega arith); distinct = λ i j h o. d.distinct i j (omega arith) (omega arith) }
+use Rattle.finding.proofs.Searches as searches
 
 -- a role of a request that is not refused is below 32 × 32
 pub role-below : {f : Source} {q : Request} {t : StepLists} → Askable f q t → q.role < 1024
@@ -51,14 +40,7 @@ size_few {t = t} a = (same-lengths t a.lists).3
 
 pub request-refused : {f : Source} {q : Request} {t : StepLists} {s : Store} {u : UseLists} {p : Prepared} → PreparesIn f q t s u p → (p.number ≡ 0 → ⊥)
     → {g : Found} → g ≡ record { number = p.number; place = p.place; entry = 0; level = 0 } → Finds f q t s.keys s.notes g
-request-refused {f} {q} {t} {s} {u} {p} d h o =
-    let r : Refusal = record { number = p.number; place = p.place } in
-    subst⁻¹ (Finds f q t s.keys s.notes) o
-    record {
-      reply = ap (λ (b : Bool). if b (done 0) (refused p.number p.place)) (ne_eqb p.number 0 h) ∙ sym (asked-refused f q t r d.refusal h (search_rows (credentials f) q.minute q.role q.set (size t)) (least_level (credentials f) q.minute (member q.role q.set)));
-      shows = λ z. absurd (h z);
-      asks = λ z. absurd (h z);
-    }
+request-refused {f} {q} {t} {p = p} d h o = searches.request-refused f q t (record { number = p.number; place = p.place }) d.refusal h o
 
 -- ---- the search of a request that is not refused
 
@@ -78,12 +60,9 @@ module _ {f : Source} {q : Request} {t : StepLists} {limit a b c : ℕ} (z : Siz
   pub loaded : LoadedIn (credentials f) q.minute limit s u p.loaded
   loaded = rw (← z.credential) (d.loaded n)
 
-  fits : FitsAll (credentials f)
-  fits = within-format f asked.accepted
-
-  passed : first (search_rows (credentials f) q.minute q.role q.set (size t)) (least_level (credentials f) q.minute (member q.role q.set))
-      ≡ first (asking f q t ++ search_rows (credentials f) q.minute q.role q.set (size t)) (least_level (credentials f) q.minute (member q.role q.set))
-  passed = sym (askable-passes f q t asked (search_rows (credentials f) q.minute q.role q.set (size t)) (least_level (credentials f) q.minute (member q.role q.set)))
+  -- the refusal of the request: none
+  abbrev said : Refusal
+  said = record { number = p.number; place = p.place }
 
   module _ {s' : Store} {r : Result Unit Full} (h : (cs : List Credential) (m : ℕ) → LoadedIn cs m limit s u p.loaded → SearchedIn cs m limit s' r) where
     found : SearchedIn (credentials f) q.minute (size t) s' r
@@ -91,7 +70,7 @@ module _ {f : Source} {q : Request} {t : StepLists} {limit a b c : ℕ} (z : Siz
 
     -- 10
     pub find-over : is_err r ≡ true → {g : Found} → g ≡ record { number = 10; place = 0; entry = 0; level = 0 } → Finds f q t s'.keys s'.notes g
-    find-over e o = subst⁻¹ (Finds f q t s'.keys s'.notes) o record { reply = rw (lt-ltb (size t) (length (members (credentials f) q.minute)) (found.searched.over (over-limit (size t) s'.count r e))) refl ∙ passed; shows = λ z. absurd (omega arith); asks = λ z. absurd (omega arith) }
+    find-over e o = searches.find-over f q t said d.refusal n found.searched (over-limit (size t) s'.count r e) o
 
     module _ (e : is_err r ≡ false) where
       all : Searched (credentials f) q.minute (size t) s'.keys s'.slots s'.notes s'.count
@@ -103,9 +82,6 @@ module _ {f : Source} {q : Request} {t : StepLists} {limit a b c : ℕ} (z : Siz
       stored : (links : List ℕ) × Stored s'.keys s'.slots links s'.count
       stored = all.stored room
 
-      few : ltb (size t) (length (members (credentials f) q.minute)) ≡ false
-      few = le-ltb (size t) (length (members (credentials f) q.minute)) (omega (arith, members-few (credentials f) fits q.minute (size t) all room, room))
-
       pub leads : Leading s'.slots
       leads = leading s'.keys s'.slots s'.count stored.1.searchable stored.1.few
 
@@ -113,9 +89,8 @@ module _ {f : Source} {q : Request} {t : StepLists} {limit a b c : ℕ} (z : Siz
         -- 13
         pub find_none : q.set < 2 ^ 32 → LookedUp s'.keys s'.slots key 0 → {g : Found} → g ≡ record { number = 13; place = 0; entry = 0; level = 0 } → Finds f q t s'.keys s'.notes g
         find_none small l o =
-            let none : (i : ℕ) → i < s'.count → get_or s'.keys i 0 ≡ key_of q.role q.set → ⊥ = λ i h e. (l.entry s'.count stored.1.searchable).absent refl i h (e ∙ sym k) in
-            subst⁻¹ (Finds f q t s'.keys s'.notes) o
-            record { reply = rw (few, no-entry (credentials f) fits q.minute (size t) all room q.role q.set small none) refl ∙ passed; shows = λ z. absurd (omega arith); asks = λ z. absurd (omega arith) }
+            let absent : (i : ℕ) → i < s'.count → get_or s'.keys i 0 ≡ key_of q.role q.set → ⊥ = λ i h e. (l.entry s'.count stored.1.searchable).absent refl i h (e ∙ sym k) in
+            searches.find_none f q t said d.refusal n all room small absent o
 
         -- an entry
         module _ {x : ℕ} (l : LookedUp s'.keys s'.slots key (suc x)) where
@@ -129,10 +104,4 @@ module _ {f : Source} {q : Request} {t : StepLists} {limit a b c : ℕ} (z : Siz
           found-rising = (s'.count, at.0, all.rising room)
 
           pub find-entry : q.set < 2 ^ 32 → {level : ℕ} → level ≡ level_of s'.notes x → Finds f q t s'.keys s'.notes (record { number = 0; place = 0; entry = x; level = level })
-          find-entry small o =
-              let e = at.1 ∙ k in
-              record {
-                reply = ap done (o ∙ entry-least (credentials f) fits q.minute (size t) all room q.role q.set small x at.0 e) ∙ rw (few, entry_has (credentials f) fits q.minute (size t) all room q.role q.set small x at.0 e) refl ∙ passed;
-                shows = λ _. record { low = omega (arith, at.0, room, stored.1.few); room = (stored.1.room.0, all.room room); key = e; derivation = first-entries at.0 (all.derivation room); level = o };
-                asks = λ _. asked;
-              }
+          find-entry small o = searches.find-entry f q t said d.refusal n all room small x (at.0, at.1 ∙ k) o

@@ -1,4 +1,5 @@
 pub mod Entries
+pub mod Searches
 pub mod Finding
 pub mod Sizes
 pub mod Levels

@@ -1,9 +1,8 @@
 // Finding the entry of one role and set at a minute, with its least level; or a refusal.
 #![tactic(auto)]
 
-ghost use Rattle.std.specs.Prelude.{◌≡◌, List, ℕ, ◌≤◌, ◌<◌};
+ghost use Rattle.std.specs.Prelude.{◌≡◌, List, ℕ, ◌≤◌, ◌<◌, replicate};
 ghost use Rattle.store.specs.Notes.{level_of, Leveled};
-ghost use Rattle.store.specs.Store.{blank};
 ghost use Rattle.loading.specs.Lists.{NoUsesIn};
 ghost use Rattle.levels.specs.Levels.{Rising};
 ghost use Rattle.withdrawals.specs.Source.{◌without◌};
@@ -46,7 +45,7 @@ struct Prepared {
     loaded: Result<(), Full>,
 }
 
-// Judges the request, searches all memberships at the minute, in a store without entries, and looks the one up. More of them than lists of so many steps hold: 10. None with this role and set: 13.
+// Judges the request, searches all memberships at the minute, in a store whose keys and notes are zeros, whatever else it holds, and looks the one up. More of them than lists of so many steps hold: 10. None with this role and set: 13.
 pub fn find(
     store: &mut Store,
     file: &[u8],
@@ -59,7 +58,7 @@ pub fn find(
     second: usize,
     sets: usize,
 ) -> Found
-    requires { store.old ≡ blank }
+    requires { (store.old.keys ≡ replicate 1024 0) × (store.old.notes ≡ replicate 3072 0) }
     ensures { (t : StepLists) → Sized t credential first second sets → Finds (file.now without withdrawals.now) (request role set minute) t store.new.keys store.new.notes result }
 {
     let mut uses = UseLists::new();
@@ -90,7 +89,7 @@ pub fn find(
     }
 }
 
-// Judges the request and loads what is valid at the minute. The decoded policy is gone when this returns, before the search takes its room.
+// Judges the request, and then loads what is valid at the minute into the store, whatever it held. The decoded policy is gone when this returns, before the search takes its room.
 fn prepare(
     store: &mut Store,
     uses: &mut UseLists,
@@ -98,8 +97,7 @@ fn prepare(
     withdrawals: &[u8],
     q: Question,
 ) -> Prepared
-    requires empty { KeptIn store.old × (store.old.count ≡ 0) }
-    requires none { NoUsesIn uses.old }
+    requires { NoUsesIn uses.old }
     ensures { (t : StepLists) → Sized t q.credential q.first q.second q.sets → PreparesIn (file.now without withdrawals.now) (request q.role q.set q.minute) t store.new uses.new result }
 {
     let mut policy = policy::room();
@@ -122,12 +120,22 @@ fn prepare(
             loaded: Ok(()),
         };
     }
+    clear(store);
     let loaded = searching::load(store, uses, &policy, j.credentials, q.minute, q.credential);
     Prepared {
         number: j.number,
         place: j.place,
         loaded,
     }
+}
+
+// Leaves a store without entries. Keys, spans and notes are read only of entries, and stay.
+fn clear(store: &mut Store)
+    ensures { KeptIn store.new × (store.new.count ≡ 0) }
+{
+    store.slots.fill(0);
+    store.links.fill(0);
+    store.count = 0;
 }
 
 fn not_found(number: u32, place: u32) -> Found

@@ -1,8 +1,8 @@
 -- What all bodies of a family give is what their uses give, and entries that are added on the way change nothing of it.
 use mathlib.Core.Path.{◌≡◌, sym, ap, ◌∙◌, subst, subst⁻¹}
-use mathlib.Core.Logic.{inl, inr}
+use mathlib.Core.Logic.{◌⊎◌, inl, inr}
 use mathlib.Core.List.{List}
-use Prim.Native.Nat.{ℕ, ◌+◌, ◌-◌, ◌≤◌, ◌<◌, zero-le}
+use Prim.Native.Nat.{ℕ, ◌+◌, ◌-◌, ◌%◌, ◌≤◌, ◌<◌, zero-le}
 use native.Mathlib.Nat.{lt_of_not-le}
 use native.Mathlib.Numerals.{add-one}
 use native.Mathlib.Omega.{arith}
@@ -17,7 +17,9 @@ use Rattle.heads.proofs.Gaining.{Within, gains-by, gains-same}
 use Rattle.heads.proofs.Walks.{along-next, along-over}
 use Rattle.heads.proofs.Heads.{no-bit, from-heads-more, headed-more}
 use Rattle.closure.specs.Closure.{Found}
+use Rattle.premises.specs.declared.Turn.{Turn}
 use Rattle.premises.specs.Combining.{Combined, InFamily, ByCode, Keyed, Offers}
+use Rattle.premises.specs.Moves.{Firing}
 use Rattle.premises.proofs.Combining.{combined-more}
 use Rattle.firing.specs.Firing.{Fires, FromFamily}
 
@@ -170,6 +172,15 @@ module _ (done : List ℕ) {keys spans keys' spans' : List ℕ} {n r : ℕ} (g :
       pub from-family-before : Within (FromFamily codes lists keys' done r e family) (FromFamily codes lists keys done n e family)
       from-family-before k at first second w =
           record { body = w.body; low = w.low; of = w.of; from = from-heads-more (offers-before (get_or codes w.body 0)) k at first second w.from }
+
+-- ---- the entry can still give, in the same families
+
+module _ {keys spans keys' spans' : List ℕ} {n r : ℕ} (g : Grown keys spans n keys' spans' r) where
+  pub firing-after : {done : List ℕ} {t : Turn} → Firing done n t → Firing done r t
+  firing-after f = record { low = (let m = g.more in let l = f.low in omega arith); some = f.some; last = f.last }
+
+  pub family-after : (e family : ℕ) → e < n → InFamily keys e family → InFamily keys' e family
+  family-after e family low = subst⁻¹ (λ (x : ℕ). (family ≡ role_in x) ⊎ (family ≡ 1024 + role_in x % 32)) (g.same e low)
 
 -- ---- a turn of the loop along the bodies of a family
 

@@ -20,10 +20,11 @@ use Rattle.heads.proofs.Gaining.{below_or_not, over-more}
 use Rattle.heads.proofs.Heads.{no-bit}
 use Rattle.closure.specs.Closure.{Found, Held, Policy, Given, TooMany, Closed}
 use Rattle.premises.specs.Combining.{Combined}
+use Rattle.premises.specs.Moves.{Firing}
 use Rattle.firing.specs.Firing.{Fires}
 use Rattle.firing.proofs.Firings.{found_before}
 use Rattle.giving.specs.declared.Visit.{Visit}
-use Rattle.giving.specs.Giving.{FiresBoth, FromEntry, Gave}
+use Rattle.giving.specs.Giving.{LastDone, FiresBoth, FromEntry, Gave}
 use Rattle.giving.proofs.Falling.{xor-or, xor-within, lefts-fall}
 use Rattle.giving.proofs.Premises.{Within, combined-below, use-gives, use-head, Some, next_level, Fired, gives-or}
 use Rattle.giving.proofs.Families.{held_after}
@@ -60,8 +61,16 @@ module _ {keys spans slots links notes done : List ℕ} {n : ℕ} (h : Held keys
   done-fresh : (j : ℕ) → n ≤ j → get_or done' j 0 ≡ 0
   done-fresh j l = done-other j (λ q. omega arith) ∙ h.fresh j l
 
-  done_held : Held keys spans slots links notes done' n
+  pub done_held : Held keys spans slots links notes done' n
   done_held = record { kept = h.kept; room = simp length-set h.room; fresh = done-fresh }
+
+  pub done-firing : {m limit : ℕ} → LastDone done v → Firing done' n (record { limit = limit; e = i; last = v.last; spans = m })
+  done-firing last =
+      record {
+        low = low;
+        some = λ z. h.kept.some i low (sym done-here ∙ z);
+        last = λ q j l. done-other j (λ f. omega arith) ∙ last q j l;
+      }
 
   -- the done spans are those from before, or new ones of entry i
   has_split : (k s : ℕ) → Has keys done' n k s → Has keys done n k s ⊎ ((bit d s ≡ 1) × (e ≡ k))

@@ -5,7 +5,7 @@ use Prim.Native.Nat.{ℕ, zero, suc, ◌+◌, ◌-◌, ◌*◌, ◌≤◌, ◌<�
 use native.Mathlib.Numerals.{add-one}
 use native.Mathlib.Omega.{arith}
 use lib.ListN.{length, take, get_or, set, replicate, length-set}
-use lib.Seq.{take-suc, take-suc-set}
+use lib.Seq.{take-suc, take-suc-set, take_all}
 use Rattle.meaning.specs.Credentials.{Period}
 use Rattle.ends.specs.declared.Interval.{Interval}
 use Rattle.survey.specs.Ends.{padded}
@@ -41,6 +41,11 @@ module _ (vs : List Interval) (all : length vs ≡ 32) where
       ∙ sym (bounds-append (take i vs) (v ∷ []))
       ∙ ap bounds_in (sym (take-suc vs i no_pair (omega arith)) ∙ ap (λ (j : ℕ). take j vs) (sym (add-one i))) in
       record { within = omega arith; long = length-set m (2 * i + 1) v.to ∙ s; same = t }
+
+  pub all_placed : (i : ℕ) {l : List ℕ} → Placed vs i l → 32 ≤ i → l ≡ bounds_in vs
+  all_placed i {l} p h =
+      let k = p.long in
+      sym (take_all (2 * i) l (omega arith)) ∙ p.same ∙ ap bounds_in (take_all i vs (omega arith))
 
 -- ---- the places
 

@@ -163,7 +163,7 @@ module _ (f : Source) (spans : ℕ) (b : List ℕ) (v : Intervals) (u : v ≡ in
       placed : places ≡ padded 64 (bounds vs)
       placed = q ∙ ap (λ (x : Intervals). bounds_in x.intervals) all-passed.answer ∙ padded-bounds vs all-passed.few
 
-      fits : (length places ≡ 64) × (length b ≡ 256)
+      pub fits : (length places ≡ 64) × (length b ≡ 256)
       fits = (ap length placed ∙ length-places vs all-passed.few, all-passed.long)
 
       pub done-ended : {l : List ℕ} → l ≡ bytes_of 4 (take 64 places) ++ drop (4 * 64) b → Ended v.count l

@@ -75,6 +75,10 @@ module _ {limit : ℕ} {codes valid lists keys₀ spans₀ notes₀ done₀ : Li
         }
 
     module _ (low : e < r) where
+      -- entry e has spans, none of which is done
+      pub not_done : get_or done e 0 ≡ get_or spans e 0 → ⊥
+      not_done q = p.held.kept.some e low (sym q ∙ p.ahead e (le_refl e))
+
       module _ {last : Bool} {keys' spans' slots' links' notes' done' : List ℕ} {t : ℕ} (g : Gave codes valid lists keys spans notes done r (record { limit = limit; e = e; last = last }) keys' spans' slots' links' notes' done' t) where
         pub passed_over : limit < t → FiredAll limit codes valid lists keys₀ spans₀ notes₀ done₀ n keys' spans' slots' links' notes' done' t
         passed_over o =

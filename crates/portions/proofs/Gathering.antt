@@ -74,6 +74,10 @@ module _ {limit : ℕ} {keys spans notes : List ℕ} {n : ℕ} {codes valid list
       let p = h.partners i l in
       record { entry = p.entry; low = omega (arith, p.low, on.0); of = p.of ∙ on.1; some = p.some; paired = p.paired; word = p.word }
 
+  -- a partner is an entry
+  pub partner-low : (i : ℕ) → i < g.count → role_in (get_or w i 0) ≤ r
+  partner-low i l = let p = pairing i l in omega (arith, p.word, p.low, (a.gains.grown a.few).more)
+
   module _ {keys'' spans'' slots'' links'' notes'' : List ℕ} {t : ℕ} (b : Gains limit keys' spans' notes' r (Headed codes valid lists body (Waits w g.count)) (FromHeads codes lists body own (Partnered w g.count)) keys'' spans'' slots'' links'' notes'' t) where
     by : (X u : ℕ) → Partnered w g.count X u → Pairing keys done start o.kind o.set X u
     by X u p = rw (p.set, p.word) (pairing p.place p.low)

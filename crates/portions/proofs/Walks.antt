@@ -1,6 +1,10 @@
 -- The loop along the list of a role, from entry start - 1 on.
+use mathlib.Core.Path.{◌≡◌, refl, ap}
 use mathlib.Core.List.{List}
-use Prim.Native.Nat.{ℕ, ◌-◌}
+use Prim.Native.Nat.{ℕ, zero, suc, ◌-◌}
+use native.Mathlib.Omega.{arith}
+use borrow.Author.Tests.{eq-eqb}
+use Rattle.store.specs.Entries.{latest}
 use Rattle.heads.specs.Gaining.{Spanned, Origin}
 use Rattle.heads.specs.Walks.{From, Along}
 use Rattle.heads.specs.Heads.{FromHeads}
@@ -23,3 +27,8 @@ Passed codes valid lists body keys done start o d = From (role_of keys) (role_of
 abbrev pub Walked : ℕ → List ℕ → List ℕ → List ℕ → ℕ → List ℕ → List ℕ → List ℕ → ℕ → ℕ → List ℕ → ℕ → Offer → List ℕ → List ℕ → List ℕ → List ℕ → List ℕ → ℕ → ℕ → Type 0
 Walked limit keys spans notes n codes valid lists body own done start o keys' spans' slots' links' notes' r c =
     Along limit keys spans notes n (role_of keys) (role_of keys (start - 1)) start (Each codes valid lists body keys done o) (ByEach codes lists body own keys done start o) keys' spans' slots' links' notes' r c
+
+-- the list of a role may start at any entry of it
+pub roles-start : (family : ℕ → ℕ) (start : ℕ) → start ≡ latest family (family (start - 1)) start
+roles-start family zero = refl
+roles-start family (suc n) = let e : n ≡ suc n - 1 = omega arith in simp (eq-eqb (family n) (family (suc n - 1)) (ap family e))

@@ -1,8 +1,7 @@
 // Querying: a proof of least level for one role, set and minute, or a refusal.
 #![tactic(auto)]
 
-ghost use Rattle.std.specs.Prelude.{◌≡◌};
-ghost use Rattle.store.specs.Store.{blank};
+ghost use Rattle.std.specs.Prelude.{◌≡◌, replicate};
 ghost use Rattle.file.specs.Refusals.{done, refused, writes};
 ghost use Rattle.asking.specs.Asking.{request, StepLists, step_lists, Sized};
 ghost use Rattle.withdrawals.specs.Source.{◌without◌};
@@ -52,7 +51,7 @@ pub fn query(
     answer
 }
 
-// A proof of the membership at the minute for lists of so many steps: its steps are then the first places of the keys and the notes of a store that has no entries before.
+// A proof of the membership at the minute for lists of so many steps: its steps are then the first places of the keys and the notes of the store, which are zeros before.
 pub fn prove(
     store: &mut Store,
     file: &[u8],
@@ -65,7 +64,7 @@ pub fn prove(
     second: usize,
     sets: usize,
 ) -> Answer
-    requires { store.old ≡ blank }
+    requires { (store.old.keys ≡ replicate 1024 0) × (store.old.notes ≡ replicate 3072 0) }
     ensures { (t : StepLists) → Sized t credential first second sets → Proves (file.now without withdrawals.now) (request role set minute) t store.new.keys store.new.notes (says_answer result) }
 {
     let found = finding::find(

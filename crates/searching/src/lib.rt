@@ -4,6 +4,7 @@
 ghost use Rattle.std.specs.Prelude.{◌≡◌, List, ℕ, ◌≤◌, length, get_or, Ok};
 ghost use Rattle.meaning.specs.Credentials.{Credential};
 ghost use Rattle.policy.specs.Policy.{credentials_of, Decoded};
+ghost use Rattle.store.specs.Store.{Fits};
 ghost use Rattle.heads.specs.Stores.{KeptIn};
 ghost use Rattle.loading.specs.Lists.{NoUsesIn};
 ghost use Rattle.searching.specs.Stores.{LoadedIn, SearchedIn};
@@ -24,7 +25,8 @@ pub fn load(
     requires empty { KeptIn store.old × (store.old.count ≡ 0) }
     requires none { NoUsesIn uses.old }
     requires limit { limit ≤ 1024 }
-    ensures { LoadedIn (credentials_of policy.now n) minute limit store.new uses.new result }
+    ensures loaded { LoadedIn (credentials_of policy.now n) minute limit store.new uses.new result }
+    ensures within { Fits limit store.new.count result }
 {
     let ends = one_end(minute);
     loading::load_uses(uses, policy, n, &ends, 1);
@@ -39,7 +41,8 @@ pub fn search(
     limit: usize,
 ) -> Result<(), Full>
     requires { (cs : List Credential) × (m : ℕ) × LoadedIn cs m limit store.old uses.now loaded }
-    ensures { (cs : List Credential) (m : ℕ) → LoadedIn cs m limit store.old uses.now loaded → SearchedIn cs m limit store.new result }
+    ensures searched { (cs : List Credential) (m : ℕ) → LoadedIn cs m limit store.old uses.now loaded → SearchedIn cs m limit store.new result }
+    ensures within { Fits limit store.old.count loaded → Fits limit store.new.count result }
 {
     loaded?;
     let mut done = store::room_for_spans();

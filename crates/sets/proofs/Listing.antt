@@ -13,18 +13,18 @@ use Rattle.sets.specs.Sets.{has, entities_below, listed, entity_text, set_text}
 use Rattle.text.proofs.Decimal.{decimal-some}
 
 -- a number, with a comma before it if another stands there
-abbrev next : Bool → ℕ → List ℕ
+abbrev pub next : Bool → ℕ → List ℕ
 next later e = cond later (44 ∷ decimal e) (decimal e)
 
 -- something is listed
-abbrev some : List ℕ → Bool
+abbrev pub some : List ℕ → Bool
 some l = ltb 0 (length (listed l))
 
 listed-some : (x : ℕ) (l : List ℕ) → 0 < length (listed (x ∷ l))
 listed-some x [] = decimal-some x
 listed-some x (y ∷ l) = simp length-append (omega arith)
 
-listed-end : (l : List ℕ) (e : ℕ) → listed (l ++ e ∷ []) ≡ listed l ++ next (some l) e
+pub listed-end : (l : List ℕ) (e : ℕ) → listed (l ++ e ∷ []) ≡ listed l ++ next (some l) e
 listed-end [] e = refl
 listed-end (x ∷ []) e = rw (lt-ltb _ _ (decimal-some x), append_assoc)
 listed-end (x ∷ y ∷ l) e =

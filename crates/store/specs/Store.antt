@@ -32,10 +32,10 @@ abbrev pub reached : ℕ → ℕ → Result Unit Full → ℕ
 reached limit n (Ok u) = n
 reached limit n (Err e) = limit + 1
 
--- there are no more entries than the limit
+-- there are no more entries than the limit, and as many where there is no room
 abbrev pub Fits : ℕ → ℕ → Result Unit Full → Type 0
 Fits limit n (Ok u) = n ≤ limit
-Fits limit n (Err e) = Unit
+Fits limit n (Err e) = n ≡ limit
 
 -- one more than a number, 0 for none
 abbrev pub one_more : Option ℕ → ℕ

@@ -77,9 +77,9 @@ module _ {cs : List Credential} {limit : ℕ} {keys found slots links notes code
       before = d.closed h done (zero-at 1024 z)
 
 -- a call had no room
-pub filled-full : {cs : List Credential} {limit : ℕ} {s : Store} {r : Result Unit Full} → IsErr r → Filled cs limit s.keys s.spans s.slots s.links (limit + 1) → FilledIn cs limit s r
-filled-full {r = Err e} _ f = record { filled = f; within = tt }
-filled-full {r = Ok u} x f = absurd cc
+pub filled-full : {cs : List Credential} {limit : ℕ} {s : Store} {r : Result Unit Full} → IsErr r → s.count ≡ limit → Filled cs limit s.keys s.spans s.slots s.links (limit + 1) → FilledIn cs limit s r
+filled-full {r = Err e} _ n f = record { filled = f; within = n }
+filled-full {r = Ok u} x n f = absurd cc
 
 pub worked-full : {cs : List Credential} {size : ℕ} {roles sets spans : List ℕ} {r : Result ℕ Full} → IsErr r → Worked cs size roles sets spans (size + 1) → WorkedTo cs size roles sets spans r
 worked-full {r = Err e} _ w = record { worked = w; within = tt }

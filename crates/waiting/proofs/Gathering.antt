@@ -5,7 +5,7 @@ use mathlib.Core.List.{List}
 use Prim.Native.Nat.{ℕ, suc, ◌-◌, ◌<◌}
 use native.Mathlib.Omega.{arith}
 use lib.Bits.{bit_and, and_zero_r}
-use lib.ListN.{get_or}
+use lib.ListN.{length, get_or}
 use Rattle.meaning.specs.Table.{bit}
 use Rattle.store.specs.Entries.{key_of, role_in, set_in}
 use Rattle.store.proofs.Keys.{role-of-key, set-of-key, set_below}
@@ -32,9 +32,28 @@ pub record Walked (keys done : List ℕ) (o : Offer) (start : ℕ) (w : List ℕ
   pub none : c ≡ start → count ≡ 0
 
 module _ {keys done : List ℕ} {o : Offer} {start : ℕ} where
+  pub walked_start : {w : List ℕ} → length w ≡ 97 → Walked keys done o start w 0 start
+  walked_start {w} room =
+      record {
+        waiting = record { room = room; few = omega arith };
+        exact = λ X s. (λ u. absurd (no_place u), λ f. absurd (no_item f));
+        partners = λ i l. absurd (omega arith);
+        on = λ nz. (omega arith, refl);
+        none = λ e. refl;
+      }
+    where
+      no_place : {X s : ℕ} → Waits w 0 X s → ⊥
+      no_place u = omega (arith, u.low)
+
+      no_item : {X s : ℕ} → From (role_of keys) (role_of keys (start - 1)) start start (Given keys done o) X s → ⊥
+      no_item f = omega (arith, f.past, f.low)
+
   module _ {w : List ℕ} {count c : ℕ} (k : Walked keys done o start w count c) where
     gathered : ((start ≡ 0 → ⊥) → c < start) → Gathers keys done o start w (record { count = count; at = c })
     gathered less = record { waiting = k.waiting; exact = k.exact; partners = k.partners; on = k.on; less = less }
+
+    pub walked_end : c ≡ 0 → Gathers keys done o start w (record { count = count; at = 0 })
+    walked_end e = subst (λ (y : ℕ). Gathers keys done o start w (record { count = count; at = y })) e (gathered (λ nz. omega arith))
 
     pub walked-full : (c ≡ 0 → ⊥) → count ≡ 24 → Gathers keys done o start w (record { count = 24; at = c })
     walked-full nz e =

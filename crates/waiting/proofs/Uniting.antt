@@ -18,6 +18,9 @@ use Rattle.waiting.specs.Waiting.{Waiting, Waits, Settled, United}
 
 -- ---- the tree
 
+pub settled-refl : (w : List ℕ) → Settled w w
+settled-refl w = record { room = refl; same = λ i l. refl }
+
 pub settled-set : (w : List ℕ) (p v : ℕ) → 48 ≤ p → Settled w (set w p v)
 settled-set w p v l = record { room = length-set w p v; same = λ i k. get_or-set_other w p i v 0 (λ e. omega arith) }
 

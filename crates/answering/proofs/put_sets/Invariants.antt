@@ -6,4 +6,4 @@ use Rattle.answering.proofs.Writing.{Filled}
 use Rattle.answering.proofs.put_sets.Given as goal
 
 abbrev pub invariant-loop-i : goal.invariant-loop-i
-invariant-loop-i l = Filled (λ (j : ℕ). set_in (get_or l.fn.store.keys j 0)) l.list l.i
+invariant-loop-i l = Filled (λ (j : ℕ). set_in (get_or l.fn.store.keys j 0)) l.fn.list l.list l.i

@@ -9,7 +9,7 @@ pub returns-in_err-add : goal.returns-in_err-add
 returns-in_err-add c =
     let a = c.args in
     let k = c.in_err-add.ensures in
-    adds-full c.from_residual.ensures.0
+    adds-full c.from_residual.ensures.0 k.within
     (set-gains a.policy.now a.i a.ends.now a.count c.statement_at-s.ensures _ c.if-s-ne0.false c.mask_at-v.ensures c.key_of.ensures
     (rw k.notes (gains-full c.requires.kept k.added (omega arith))))
 

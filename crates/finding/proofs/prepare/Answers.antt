@@ -17,4 +17,4 @@ load-loaded-requires-clause-limit c =
     rw (← z.credential) (size_few (askable (c.args.file.now without c.args.withdrawals.now) (request a.role a.set a.minute) t (record { number = c.judge-j.result.number; place = c.judge-j.result.place }) (c.judge-j.ensures t z).refusal c.if-j-ne0.false))
 
 pub returns : goal.returns
-returns c = λ t z. let j = c.judge-j.ensures t z in record { refusal = j.refusal; loaded = λ o. rw (← (j.policy o).means, z.credential) c.load-loaded.ensures }
+returns c = λ t z. let j = c.judge-j.ensures t z in record { refusal = j.refusal; loaded = λ o. rw (← (j.policy o).means, z.credential) c.load-loaded.ensures.loaded }

@@ -20,7 +20,8 @@ loop-at-init c =
 pub returns-in_err-fire_body : goal.returns-in_err-fire_body
 returns-in_err-fire_body c =
     let r = c.requires in
-    adds-full c.from_residual.ensures.0 (all-fires r.listed.0 (fired-over c.args.t.spans r.held.fresh r.firing.low c.loop-at.invariant c.loop-at-test.true c.in_err-fire_body.ensures.gains (omega arith)))
+    let b = c.in_err-fire_body.ensures in
+    adds-full c.from_residual.ensures.0 b.within (all-fires r.listed.0 (fired-over c.args.t.spans r.held.fresh r.firing.low c.loop-at.invariant c.loop-at-test.true b.gains (omega arith)))
 
 pub loop-at-smaller : goal.loop-at-smaller
 loop-at-smaller c =

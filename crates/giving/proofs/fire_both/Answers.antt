@@ -7,7 +7,8 @@ use Rattle.giving.proofs.fire_both.Goals as goal
 pub returns-in_err-fire_family : goal.returns-in_err-fire_family
 returns-in_err-fire_family c =
     let p = c.requires in
-    adds-full c.from_residual.ensures.0 (families-over p.held c.args.t.e p.firing.low c.role_of-role.ensures c.in_err-fire_family.ensures.gains (omega arith))
+    let g = c.in_err-fire_family.ensures in
+    adds-full c.from_residual.ensures.0 g.within (families-over p.held c.args.t.e p.firing.low c.role_of-role.ensures g.gains (omega arith))
 
 pub returns : goal.returns
 returns c =

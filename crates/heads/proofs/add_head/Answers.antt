@@ -9,7 +9,7 @@ use Rattle.heads.proofs.add_head.Goals as goal
 pub returns-in_err-add : goal.returns-in_err-add
 returns-in_err-add c =
     let k = c.in_err-add.ensures in
-    adds-full c.from_residual.ensures.0 (gains-key {key = c.key_of-key.result} _ (cc) (rw k.notes (gains-full c.requires.kept k.added (omega arith))))
+    adds-full c.from_residual.ensures.0 k.within (gains-key {key = c.key_of-key.result} _ (cc) (rw k.notes (gains-full c.requires.kept k.added (omega arith))))
 
 pub returns-then-store-n : goal.returns-then-store-n
 returns-then-store-n c =

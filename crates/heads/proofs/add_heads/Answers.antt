@@ -19,7 +19,8 @@ loop-at-init c =
 pub returns-in_err-add_head : goal.returns-in_err-add_head
 returns-in_err-add_head c =
     let g = c.args.g in
-    adds-full c.from_residual.ensures.0 (heads-over c.args.uses.now.valid g.set g.spans c.loop-at.invariant c.loop-at-test.true c.in_err-add_head.ensures.gains (omega arith))
+    let k = c.in_err-add_head.ensures in
+    adds-full c.from_residual.ensures.0 k.within (heads-over c.args.uses.now.valid g.set g.spans c.loop-at.invariant c.loop-at-test.true k.gains (omega arith))
 
 pub loop-at-smaller : goal.loop-at-smaller
 loop-at-smaller c =

@@ -7,7 +7,8 @@ use Rattle.levels.proofs.fire_all.Goals as goal
 pub returns-in_err-give : goal.returns-in_err-give
 returns-in_err-give c =
     let e = err_from_is_err_and c.from_residual.result c.from_residual.ensures.1 in
-    rw e.1 (record { fired = passed_over c.loop-e.invariant c.loop-e-test.true c.in_err-give.ensures.gave (omega arith); within = tt })
+    let g = c.in_err-give.ensures in
+    rw e.1 (record { fired = passed_over c.loop-e.invariant c.loop-e-test.true g.gave (omega arith); within = g.within })
 
 pub loop-e-init : goal.loop-e-init
 loop-e-init c = passed_start c.requires.start c.requires.few.0

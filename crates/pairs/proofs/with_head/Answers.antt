@@ -53,7 +53,7 @@ returns-in_err-add_head c =
     let v = c.loop-at.invariant in
     let h = rw (c.lacking-g.ensures.some c.if-g-ne0.true) at c.in_err-add_head.ensures in
     rw e.1
-    (record { gains = along-over v c.loop-at-test.true (entry-added c.args.p.offer c.requires.only v c.requires.plan.0 c.loop-at-test.true h.gains) (λ k s w. w) (omega arith); within = tt })
+    (record { gains = along-over v c.loop-at-test.true (entry-added c.args.p.offer c.requires.only v c.requires.plan.0 c.loop-at-test.true h.gains) (λ k s w. w) (omega arith); within = h.within })
 
 pub loop-at-smaller : goal.loop-at-smaller
 loop-at-smaller c =

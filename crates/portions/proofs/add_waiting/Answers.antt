@@ -10,7 +10,7 @@ returns-in_err-add_heads c =
     let v = c.loop-i.invariant in
     let h = rw c.gift_of.ensures at c.in_err-add_heads.ensures in
     rw e.1
-    (record { gains = added-over c.args.places.now c.loop-i.i c.loop-i-test.true c.set_of.ensures.0 c.role_of.ensures v.gains v.few h.gains (omega arith); within = tt })
+    (record { gains = added-over c.args.places.now c.loop-i.i c.loop-i-test.true c.set_of.ensures.0 c.role_of.ensures v.gains v.few h.gains (omega arith); within = h.within })
 
 pub loop-i-preserved : goal.loop-i-preserved
 loop-i-preserved c =

@@ -16,8 +16,9 @@ gather-g-requires c =
 pub returns-in_err-add_waiting : goal.returns-in_err-add_waiting
 returns-in_err-add_waiting c =
     let e = err_from_is_err_and c.from_residual.result c.from_residual.ensures.1 in
+    let h = c.in_err-add_waiting.ensures in
     rw e.1
-    (record { gains = portion-over c.args.p.offer c.loop-at.invariant c.requires.plan.0 c.loop-at-test.true c.gather-g.ensures c.in_err-add_waiting.ensures.gains (omega arith); within = tt })
+    (record { gains = portion-over c.args.p.offer c.loop-at.invariant c.requires.plan.0 c.loop-at-test.true c.gather-g.ensures h.gains (omega arith); within = h.within })
 
 pub loop-at-preserved : goal.loop-at-preserved
 loop-at-preserved c =

@@ -18,7 +18,8 @@ load_sets-requires-clause-empty c = blank-kept c.requires.blank
 pub returns-in_err-load_sets : goal.returns-in_err-load_sets
 returns-in_err-load_sets c =
     let n = (blank-kept c.requires.blank).1 in
-    filled-full c.from_residual.ensures.0 (filled-over (all-loaded c.requires.loadable n c.load_uses.ensures c.in_err-load_sets.ensures.gains) (omega arith))
+    let d = c.in_err-load_sets.ensures in
+    filled-full c.from_residual.ensures.0 d.within (filled-over (all-loaded c.requires.loadable n c.load_uses.ensures d.gains) (omega arith))
 
 pub close-requires-clause-held : goal.close-requires-clause-held
 close-requires-clause-held c = let d = c.in_ok-load_sets.ensures in held (d.gains.kept d.within) c.room_for_spans-done.ensures
